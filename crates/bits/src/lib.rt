@@ -1,0 +1,1 @@
+// Layer 1: the words of doubles, and the square root.
