@@ -3,11 +3,12 @@
 -- held beside the document's. The signs bind and group as there: `⊗` and `⊘` before `⊕` and `⊖`, each from the left.
 -- A constant is given by its bit pattern, as the code's literal is; `whole-numbers` says that each is the number that its name says.
 use mathlib.Core.Path.{_≡_, refl}
-use mathlib.Core.Bool.{Bool, true, false}
+use mathlib.Core.Bool.{Bool}
 use mathlib.Core.List.{List, [], _∷_}
 use Prim.Native.Nat.{ℕ}
 use lib.IntN.{pos}
-use lib.Ieee.{Float, nan, inf, fin, binary64, add, sub, mul, div, ofBits, ofInt}
+use lib.Ieee.{Float, binary64, add, sub, mul, div, ofBits, ofInt}
+use lib.Ieee.Scale.{finite}
 
 infixl 6 _⊕_ _⊖_
 infixl 7 _⊗_ _⊘_
@@ -41,9 +42,7 @@ n6 = ofBits binary64 0x4018000000000000
 
 -- Neither a NaN nor an infinity.
 abbrev pub isFinite : Float → Bool
-isFinite nan = false
-isFinite (inf s) = false
-isFinite (fin s m e) = true
+isFinite x = finite x
 
 -- Each of a list of constants, beside the whole number that it is to be, is that number.
 abbrev pub AreWhole : List (Float × ℕ) → Type 0

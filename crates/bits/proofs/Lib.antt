@@ -1,0 +1,10 @@
+pub mod Units
+pub mod Digits
+pub mod Doubling
+pub mod Nearest
+pub mod Answers
+pub mod Computed
+pub mod Exists
+pub mod Doubles
+pub mod RootLaws
+pub mod OneAnswers

@@ -1,0 +1,36 @@
+-- The word's answer is the computed one, and a NaN's is written out.
+use mathlib.Core.Path.{sym, ap, subst}
+use borrow.Author.Needs.{needs}
+use native.Mathlib.Omega.{arith}
+use lib.Dec.{T}
+use lib.Ieee.{binary64, ofBits}
+use lib.Ieee.Compare.{differs-from-itself}
+use Rattle.bits.specs.Root.{rootOf}
+use Rattle.bits.proofs.Doubles.{no-nan, no-nan-bits}
+use Rattle.bits.proofs.RootLaws.{root-of-nan}
+use Rattle.bits.proofs.Computed.{answered, word-bounded}
+use Rattle.bits.proofs.root.root_of_figure.Statement.{statement}
+use Rattle.bits.proofs.root.root_of_figure.Tie as tie
+
+returns : tie.Need-returns
+returns c = root-of-nan _ (differs-from-itself _ (subst T (sym (c .if1 .taken)) tt))
+
+float-to-bits-root-of : tie.Need-float-to-bits-root-of
+float-to-bits-root-of c = no-nan _ (c .if1 .left)
+
+root-of-requires : tie.Need-root-of-requires
+root-of-requires c κs = search needs
+
+float-from-bits-t6 : tie.Need-float-from-bits-t6
+float-from-bits-t6 c = no-nan-bits _ (omega (arith, word-bounded _ _ _ (c .root-of .ensures)))
+
+returns-2 : tie.Need-returns-2
+unfolding rootOf
+returns-2 c =
+    let a = answered _ _ _ (c .root-of .ensures) in
+    (a .0, ap (λ w. ofBits binary64 w) (a .1))
+
+pub root-of-figure-spec : {M : Type 1} → statement M
+root-of-figure-spec =
+    tie.close
+    (tie.spec returns float-to-bits-root-of root-of-requires float-from-bits-t6 returns-2)

@@ -1,0 +1,62 @@
+-- The marked cases of document 01 that are layer 1's, evaluated from the definitions.
+use mathlib.Core.Path.{_≡_, refl}
+use Prim.Native.Nat.{ℕ}
+use lib.Ieee.{ofBits, toBits, div}
+use Rattle.bits.specs.Arithmetic.{n1, n2, _⊘_}
+use Rattle.bits.specs.Words.{minusZero}
+use Rattle.bits.specs.Root.{rootRefusalOf, rootWordOf, rootOf, rootRefusal}
+
+-- A word, the refusal and the root's word.
+abbrev pub Gives : ℕ → ℕ → ℕ → Type 0
+Gives word refusal root = (rootRefusalOf word ≡ refusal) × (rootWordOf word ≡ root)
+
+-- P1: the root of 4 is 2.
+pub p1 : Gives 0x4010_0000_0000_0000 0 0x4000_0000_0000_0000
+unfolding rootWordOf
+p1 = (refl, refl)
+
+-- P2: the root of 2.25 is 1.5.
+pub p2 : Gives 0x4002_0000_0000_0000 0 0x3ff8_0000_0000_0000
+unfolding rootWordOf
+p2 = (refl, refl)
+
+-- P3: the root of 2^-1074 is 2^-537.
+pub p3 : Gives 1 0 0x1e60_0000_0000_0000
+unfolding rootWordOf
+p3 = (refl, refl)
+
+-- P4: the root of -1 is refused with 9.
+pub p4 : Gives 0xbff0_0000_0000_0000 9 0
+unfolding rootWordOf
+p4 = (refl, refl)
+
+-- The root of either zero is +0; the nearest double to the root of 2, as any table has it; the root of the largest double is 2^512 less one digit;
+-- an infinity and a NaN are refused.
+plus-zero : Gives 0 0 0
+unfolding rootWordOf
+plus-zero = (refl, refl)
+
+minus-zero : Gives minusZero 0 0
+unfolding rootWordOf
+minus-zero = (refl, refl)
+
+two : Gives 0x4000_0000_0000_0000 0 0x3ff6_a09e_667f_3bcd
+unfolding rootWordOf
+two = (refl, refl)
+
+largest : Gives 0x7fef_ffff_ffff_ffff 0 0x5fef_ffff_ffff_ffff
+unfolding rootWordOf
+largest = (refl, refl)
+
+infinite : Gives 0x7ff0_0000_0000_0000 9 0
+unfolding rootWordOf
+infinite = (refl, refl)
+
+nan : Gives 0x7ff8_0000_0000_0000 9 0
+unfolding rootWordOf
+nan = (refl, refl)
+
+-- The same for a double as a number: the root of 1/2 divided by 2 is 1/2.
+quarter : (rootRefusal (n1 ⊘ n2 ⊘ n2) ≡ 0) × (rootOf (n1 ⊘ n2 ⊘ n2) ≡ n1 ⊘ n2)
+unfolding rootOf ofBits toBits div
+quarter = (refl, refl)

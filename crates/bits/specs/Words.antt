@@ -1,0 +1,48 @@
+-- The words of doubles. Document 01: "Doubles are told apart by exponent field: 0 is zero or subnormal, 1 to 2046 normal, 2047 not finite."
+use mathlib.Core.Bool.{Bool, true, false}
+use Prim.Native.Nat.{ℕ, zero, suc, _+_, _*_, _/_, _%_, _^_}
+use lib.Dec.{eqb, leb}
+use lib.Ieee.{binary64, ofBits}
+use Rattle.bits.specs.Choice.{pick}
+use Rattle.bits.specs.declared.words.Kind.{Kind}
+use Rattle.bits.specs.declared.words.Kind.the-variants as kind
+use Rattle.bits.specs.declared.words.Figure.{Figure}
+use Rattle.bits.specs.declared.words.Figure.the-variants as figure
+
+-- The exponent field and the 52 digits of a word; what is left is its sign bit.
+abbrev pub fieldOf : ℕ → ℕ
+fieldOf w = w % 2 ^ 63 / 2 ^ 52
+
+abbrev pub digitsOf : ℕ → ℕ
+digitsOf w = w % 2 ^ 52
+
+abbrev pub kindOf : ℕ → Kind
+kindOf w =
+    pick (eqb (fieldOf w) 0) kind.ZeroOrSubnormal
+    (pick (leb (fieldOf w) 2046) kind.Normal
+    kind.NotFinite)
+
+-- The double of a word, where it is finite.
+abbrev pub figureBy : Kind → ℕ → Figure
+figureBy kind.ZeroOrSubnormal w = figure.Finite (ofBits binary64 w)
+figureBy kind.Normal w = figure.Finite (ofBits binary64 w)
+figureBy kind.NotFinite w = figure.NotFinite
+
+abbrev pub figureOf : ℕ → Figure
+figureOf w = figureBy (kindOf w) w
+
+-- The word of plus infinity: the words below it are those of the finite doubles with a clear sign bit, in the order of their values.
+abbrev pub infinity : ℕ
+infinity = 2047 * 2 ^ 52
+
+-- The word of minus zero: it and all above have their sign bit set.
+abbrev pub minusZero : ℕ
+minusZero = 2 ^ 63
+
+-- How many times the smallest double above zero, 2 ^ -1074, a finite double with a clear sign bit is, by its exponent field and its digits.
+abbrev pub scaled : ℕ → ℕ → ℕ
+scaled zero t = t
+scaled (suc x) t = (2 ^ 52 + t) * 2 ^ x
+
+unfoldable pub units : ℕ → ℕ
+units w = scaled (w / 2 ^ 52) (w % 2 ^ 52)

@@ -1,0 +1,138 @@
+// The square root: the double nearest to the exact root, digit by digit over whole numbers.
+ghost use mathlib.Core.Path.{_≡_};
+ghost use Prim.Native.Nat.{ℕ, _+_, _*_, _^_, _≤_, _<_};
+ghost use Rattle.bits.specs.Words.{units};
+ghost use Rattle.bits.specs.Root.{NearestRoot, RootAnswer, rootRefusal, rootOf};
+use super::words::FIELD;
+use super::words::SIGN;
+
+// A word's root: refusal 9 or 0, and the root's word, +0 where it is refused.
+pub struct Root {
+    pub refusal: u64,
+    pub word: u64,
+}
+
+// The same for a double as a number.
+pub struct RootFigure {
+    pub refusal: u64,
+    pub figure: f64,
+}
+
+// A number above zero as `digits` times a power of two, with 53 digits.
+struct Scaled {
+    digits: u64,
+    power: u64,
+}
+
+// The root of m * 2^54 rounded down, a binary digit a step. `left` is what the square of the digits so far leaves of the digits of m that
+// were brought down, two a step; `rest` holds those still to come.
+fn root_digits(m: u64) -> u64
+    requires { ⌜ m < 2 ^ 54 ⌝ }
+    ensures { λ q. ⌜ (q * q ≤ m * 2 ^ 54) × (m * 2 ^ 54 < (q + 1) * (q + 1)) ⌝ }
+{
+    let mut q: u64 = 0;
+    let mut left: u64 = 0;
+    let mut rest: u64 = m;
+    for i in 0u64..54 {
+        let have = left * 4 + rest / FIELD;
+        rest = rest % FIELD * 4;
+        let take = q * 4 + 1;
+        if take <= have {
+            left = have - take;
+            q = q * 2 + 1;
+        } else {
+            left = have;
+            q = q * 2;
+        }
+    }
+    q
+}
+
+// A subnormal's digits doubled until there are 53 of them, and the power of two that makes up for it.
+fn normalised(digits: u64) -> Scaled
+    requires { ⌜ (0 < digits) × (digits < 2 ^ 52) ⌝ }
+    ensures { λ r. ⌜ (r .«digits» * 2 ^ r .power ≡ digits * 2 ^ 52) × (2 ^ 52 ≤ r .«digits») × (r .«digits» < 2 ^ 53) × (r .power ≤ 52) ⌝ }
+{
+    let mut m = digits;
+    let mut e: u64 = 52;
+    while m < FIELD {
+        m = m * 2;
+        e -= 1;
+    }
+    Scaled {
+        digits: m,
+        power: e,
+    }
+}
+
+// The word of the root of a double that is m * 2^e, counted in units of 2^-1126. The 54 digits of the root of m, or of 2 m where e is odd, are halved
+// and rounded up where the last is 1; a carry goes on into the exponent field by itself.
+fn packed_root(m: u64, e: u64) -> u64
+    requires { ⌜ (2 ^ 52 ≤ m) × (m < 2 ^ 53) × (e ≤ 2097) ⌝ }
+    ensures { λ r. ⌜ ((b : ℕ) → units b * 2 ^ 52 ≡ m * 2 ^ e → NearestRoot b r) ⌝ }
+{
+    let q = root_digits(m * (1 + e % 2));
+    (e / 2 + 485) * FIELD + (q + 1) / 2
+}
+
+// A root, given by its word.
+fn rooted(word: u64) -> Root
+    ensures { λ r. ⌜ (r .refusal ≡ 0) × (r .word ≡ word) ⌝ }
+{
+    Root { refusal: 0, word }
+}
+
+// No root: refusal 9, with +0 for its word.
+fn refused() -> Root
+    ensures { λ r. ⌜ (r .refusal ≡ 9) × (r .word ≡ 0) ⌝ }
+{
+    Root {
+        refusal: 9,
+        word: 0,
+    }
+}
+
+// The root of the double of a word.
+pub fn root_of(word: u64) -> Root
+    ensures { λ r. ⌜ RootAnswer word (r .refusal) (r .word) ⌝ }
+{
+    let field = word % SIGN / FIELD;
+    let digits = word % FIELD;
+    match field {
+        0 => {
+            if digits == 0 {
+                return rooted(0);
+            }
+            if SIGN <= word {
+                return refused();
+            }
+            let n = normalised(digits);
+            rooted(packed_root(n.digits, n.power))
+        }
+        1..=2046 => {
+            if SIGN <= word {
+                return refused();
+            }
+            rooted(packed_root(digits + FIELD, field + 51))
+        }
+        _ => refused(),
+    }
+}
+
+// The root of a double as a number.
+pub fn root_of_figure(x: f64) -> RootFigure
+    ensures { λ r. ⌜ (r .refusal ≡ rootRefusal x) × (r .figure ≡ rootOf x) ⌝ }
+{
+    if x != x {
+        return RootFigure {
+            refusal: 9,
+            figure: 0.0,
+        };
+    }
+    let r = root_of(f64::to_bits(x));
+    let word = r.word;
+    RootFigure {
+        refusal: r.refusal,
+        figure: f64::from_bits(word),
+    }
+}

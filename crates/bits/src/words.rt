@@ -1,0 +1,44 @@
+// A double crosses every border of this project as its 64-bit word: a sign bit, 11 bits of exponent field, 52 digits.
+ghost use mathlib.Core.Path.{_≡_};
+ghost use Rattle.bits.specs.Words.{kindOf, figureOf};
+
+// The weight of a word's sign bit.
+pub const SIGN: u64 = 0x8000_0000_0000_0000;
+// The weight of the exponent field's lowest bit: one more than the largest number that the 52 digits hold.
+pub const FIELD: u64 = 0x0010_0000_0000_0000;
+
+// What the exponent field says of a double.
+pub enum Kind {
+    ZeroOrSubnormal,
+    Normal,
+    NotFinite,
+}
+
+// A word's double as a number, where it is finite.
+pub enum Figure {
+    Finite(f64),
+    NotFinite,
+}
+
+// What the double of a word is, by its exponent field.
+pub fn kind_of(word: u64) -> Kind
+    ensures { λ r. ⌜ r ≡ kindOf word ⌝ }
+{
+    let field = word % SIGN / FIELD;
+    match field {
+        0 => Kind::ZeroOrSubnormal,
+        1..=2046 => Kind::Normal,
+        _ => Kind::NotFinite,
+    }
+}
+
+// The double of a word. No number is made of a word that is not finite.
+pub fn figure_of(word: u64) -> Figure
+    ensures { λ r. ⌜ r ≡ figureOf word ⌝ }
+{
+    match kind_of(word) {
+        Kind::ZeroOrSubnormal => Figure::Finite(f64::from_bits(word)),
+        Kind::Normal => Figure::Finite(f64::from_bits(word)),
+        Kind::NotFinite => Figure::NotFinite,
+    }
+}

@@ -1,0 +1,15 @@
+-- Every entry point returns a refusal's number, or 0, and writes its whole answer run, refused or not: the run is the answer itself.
+-- 60, the project's own number, stands before all else: the answer run is not exactly as long as the answer, and nothing is written.
+use mathlib.Core.List.{List}
+use Prim.Native.Nat.{ℕ}
+use lib.Dec.{eqb}
+use lib.ListN.{length}
+use Rattle.bits.specs.Choice.{pick}
+
+-- What is returned, for an answer of n words and a run as it was handed in.
+abbrev pub returned : ℕ → List ℕ → ℕ → ℕ
+returned n run refusal = pick (eqb (length run) n) refusal 60
+
+-- What the run holds afterwards.
+abbrev pub written : ℕ → List ℕ → List ℕ → List ℕ
+written n run answer = pick (eqb (length run) n) answer run

@@ -1,0 +1,2 @@
+-- The C face: what every entry point shares.
+pub mod Face
