@@ -87,9 +87,8 @@ falls j (inf s) h u = absurd u
 falls j (fin s m e) h u =
     let a = m * up e * 1 in
     let b = 4 * down e in
-    let q : a * 1 ≤ 2 ^ j * b =
-    le-trans (le-of-eq (mul-one a ∙ mul-one (m * up e)))
-    (le-trans u (le-of-eq (ap (λ (k : ℕ). k * down e) (pow-add 2 j 2) ∙ mul-assoc (2 ^ j) 4 (down e)))) in
+    let w : 2 ^ (j + 2) * down e ≡ 2 ^ j * b = ap (λ (k : ℕ). k * down e) (pow-add 2 j 2) ∙ mul-assoc (2 ^ j) 4 (down e) in
+    let q : a * 1 ≤ 2 ^ j * b = le-trans (le-of-eq (mul-one a ∙ mul-one (m * up e))) (le-trans u (le-of-eq w)) in
     below j (fin s m e ⊘ n4) (round binary64 false (2 ^ j) 1)
     (subst (λ (y : Float). T (le y (round binary64 false (2 ^ j) 1)))
     (sym (ap magnitude (quarter s m e) ∙ magnitude-round binary64 (unlike s false) a b))

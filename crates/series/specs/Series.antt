@@ -76,11 +76,11 @@ quotientsOf l two =
     let c5 = (c3 ⊖ sixth) ⊘ l in
     record { c0 = two .c0; c1 = two .c1; c2 = c2; c3 = c3; c4 = c4; c5 = c5 }
 
--- "If m > 0" these; else the six at L, which no doubling changed.
-abbrev pub coefficientsFrom : Float → Reduced → Coefficients
-coefficientsFrom first red =
-    let small = atReduced (red .l) in
-    pick (ltb 0 (red .m)) (quotientsOf first (doublings (red .m) (small .c0) (small .c1))) small
+-- "If m > 0" it is these; else the six at L, which then no doubling changes.
+abbrev pub coefficientsFrom : (first : Float) (after : Reduced) → Coefficients
+coefficientsFrom first after =
+    let six = atReduced (after .l) in
+    pick (ltb 0 (after .m)) (quotientsOf first (doublings (after .m) (six .c0) (six .c1))) six
 
 unfoldable pub coefficientsOf : Float → Anomaly → Coefficients
 coefficientsOf alpha psi = coefficientsFrom (firstL alpha psi) (reduced (firstL alpha psi))

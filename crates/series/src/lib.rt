@@ -28,11 +28,11 @@ pub fn coefficients(alpha: f64, psi: Anomaly) -> Coefficients
 {
     let l = alpha * (psi.0 * psi.0);
     let reduced = reduce(l);
-    let small = at_reduced(reduced.l);
+    let six = at_reduced(reduced.l);
     if reduced.m == 0 {
-        return small;
+        return six;
     }
-    quotients(l, double(reduced.m, small.c0, small.c1))
+    quotients(l, double(reduced.m, six.c0, six.c1))
 }
 
 // s1, s2 and s3 of the anomaly psi whose coefficients are c.

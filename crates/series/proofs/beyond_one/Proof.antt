@@ -19,11 +19,17 @@ two-sided (inf false) = refl
 two-sided (fin true m e) = refl
 two-sided (fin false m e) = or-false _
 
+above : (l : Float) → lt n1 l ≡ true → lt n1 l ≡ beyondOne l
+above l h = h ∙ simp h at (two-sided l)
+
+not-above : (l : Float) → lt n1 l ≡ false → lt l (neg n1) ≡ beyondOne l
+not-above l h = simp h at (two-sided l)
+
 returns : tie.Need-returns
-returns c = c .if1 .taken ∙ simp (c .if1 .taken) at (two-sided (c .before .args .l))
+returns c = above (c .before .args .l) (c .if1 .taken)
 
 returns-2 : tie.Need-returns-2
-returns-2 c = simp (c .if1 .left) at (two-sided (c .before .args .l))
+returns-2 c = not-above (c .before .args .l) (c .if1 .left)
 
 pub beyond-one-spec : {M : Type 1} → statement M
 beyond-one-spec = tie.close (tie.spec returns returns-2)
