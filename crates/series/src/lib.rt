@@ -22,7 +22,7 @@ struct FirstTwo {
     c1: f64,
 }
 
-// c0 to c5 of the anomaly psi. Any two doubles have an answer; where alpha·(psi·psi) is not finite it means nothing, and callers test that.
+// c0 to c5 of the anomaly psi, bit for bit as document 01 rounds them. Where alpha·(psi·psi) is not finite they mean nothing: a caller tests it.
 pub fn coefficients(alpha: f64, psi: Anomaly) -> Coefficients
     ensures { λ r. ⌜ r ≡ coefficientsOf alpha psi ⌝ }
 {
@@ -54,7 +54,7 @@ fn beyond_one(l: f64) -> bool
     l > 1.0 || l < -1.0
 }
 
-// L divided by 4 while |L| > 1, at most 512 times. No finite L needs as many as 513 (the law `enough`); an infinite one stops there.
+// L divided by 4 while |L| > 1, at most 512 times. No finite L needs more (the law `enough`); an infinite one stops there.
 fn reduce(first: f64) -> Reduced
     ensures { λ r. ⌜ r ≡ reduced first ⌝ }
 {
