@@ -1,0 +1,18 @@
+-- c4 and c5 are what their functions ensure; the rest is the definition written out.
+use borrow.Author.Needs.{needs}
+use Rattle.series.specs.Series.{atReduced}
+use Rattle.series.proofs.at_reduced.Statement.{statement}
+use Rattle.series.proofs.at_reduced.Tie as tie
+
+c4-of-requires : tie.Need-c4-of-requires
+c4-of-requires c κs = search needs
+
+c5-of-requires : tie.Need-c5-of-requires
+c5-of-requires c κs = search needs
+
+returns : tie.Need-returns
+unfolding atReduced
+returns c = simp (c .before .c4-of .ensures, c .c5-of .ensures)
+
+pub at-reduced-spec : {M : Type 1} → statement M
+at-reduced-spec = tie.close (tie.spec c4-of-requires c5-of-requires returns)
