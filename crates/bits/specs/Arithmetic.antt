@@ -3,11 +3,11 @@
 -- held beside the document's. The signs bind and group as there: `⊗` and `⊘` before `⊕` and `⊖`, each from the left.
 -- A constant is given by its bit pattern, as the code's literal is; `whole-numbers` says that each is the number that its name says.
 use mathlib.Core.Path.{_≡_, refl}
-use mathlib.Core.Bool.{Bool}
+use mathlib.Core.Bool.{Bool, false}
 use mathlib.Core.List.{List, [], _∷_}
 use Prim.Native.Nat.{ℕ}
 use lib.IntN.{pos}
-use lib.Ieee.{Float, binary64, add, sub, mul, div, ofBits, ofInt}
+use lib.Ieee.{Float, nan, inf, fin, binary64, add, sub, mul, div, ofBits, ofInt}
 use lib.Ieee.Scale.{finite}
 
 infixl 6 _⊕_ _⊖_
@@ -43,6 +43,12 @@ n6 = ofBits binary64 0x4018000000000000
 -- Neither a NaN nor an infinity.
 abbrev pub isFinite : Float → Bool
 isFinite x = finite x
+
+-- |x|
+abbrev pub magnitude : Float → Float
+magnitude nan = nan
+magnitude (inf s) = inf false
+magnitude (fin s m e) = fin false m e
 
 -- Each of a list of constants, beside the whole number that it is to be, is that number.
 abbrev pub AreWhole : List (Float × ℕ) → Type 0

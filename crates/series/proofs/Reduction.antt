@@ -13,9 +13,9 @@ use lib.Ieee.{Float, nan, inf, fin, Format, binary64, prec, emax, low, up, down,
 use lib.Ieee.Fits.{down-pos, and-r}
 use lib.Ieee.Exact.{HasValue, round-exact}
 use lib.Ieee.Order.{round-mono}
-use Rattle.bits.specs.Arithmetic.{_⊘_, isFinite}
+use Rattle.bits.specs.Arithmetic.{_⊘_, isFinite, magnitude}
 use Rattle.series.specs.Constants.{n4}
-use Rattle.series.specs.Series.{magnitude, beyondOne, reducedFrom}
+use Rattle.series.specs.Series.{beyondOne, reducedFrom}
 
 -- ---- one step, by whether |L| > 1
 pub stays : (most : ℕ) (again : Bool) (l : Float) (m : ℕ) → again ≡ false → reducedFrom most again l m ≡ record { l = l; m = m }

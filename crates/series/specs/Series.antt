@@ -1,12 +1,12 @@
 -- Document 01, "Initial figures and series (document 003, 3.4)", from "For an anomaly ψ" to s3. Each definition stands under the document's words, in
 -- the document's order and letters. α, ψ and L may be any doubles.
-use lib.Ieee.{Float, nan, inf, fin, lt}
+use lib.Ieee.{Float, lt}
 use lib.Dec.{ltb}
 use mathlib.Core.Bool.{Bool, true, false}
 use mathlib.Core.List.{List, [], _∷_}
 use Prim.Native.Nat.{ℕ, zero, suc, _+_}
 use Rattle.bits.specs.Choice.{pick}
-use Rattle.bits.specs.Arithmetic.{_⊕_, _⊖_, _⊗_, _⊘_, half, n1, n2}
+use Rattle.bits.specs.Arithmetic.{_⊕_, _⊖_, _⊗_, _⊘_, half, n1, n2, magnitude}
 use Rattle.series.specs.Constants.{sixth, n4, n24, n120, divisors4, divisors5}
 use Rattle.series.specs.declared.figures.Anomaly.{Anomaly}
 use Rattle.series.specs.declared.figures.Coefficients.{Coefficients}
@@ -17,12 +17,6 @@ use Rattle.series.specs.declared.FirstTwo.{FirstTwo}
 -- "L = α·(ψ·ψ)": the first L.
 abbrev pub firstL : Float → Anomaly → Float
 firstL alpha psi = alpha ⊗ (psi .0 ⊗ psi .0)
-
--- |L|
-abbrev pub magnitude : Float → Float
-magnitude nan = nan
-magnitude (inf s) = inf false
-magnitude (fin s m e) = fin false m e
 
 -- "|L| > 1"
 unfoldable pub beyondOne : Float → Bool
@@ -87,4 +81,4 @@ coefficientsOf alpha psi = coefficientsFrom (firstL alpha psi) (reduced (firstL 
 
 -- "s1 = ψ·c1, s2 = (ψ·ψ)·c2, s3 = ((ψ·ψ)·ψ)·c3"
 unfoldable pub sumsOf : Anomaly → Coefficients → Sums
-sumsOf psi c = record { s1 = psi .0 ⊗ c .c1; s2 = psi .0 ⊗ psi .0 ⊗ c .c2; s3 = psi .0 ⊗ psi .0 ⊗ psi .0 ⊗ c .c3 }
+sumsOf psi c = record { s1 = psi .0 ⊗ c .c1; s2 = (psi .0 ⊗ psi .0) ⊗ c .c2; s3 = ((psi .0 ⊗ psi .0) ⊗ psi .0) ⊗ c .c3 }

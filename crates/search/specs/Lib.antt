@@ -1,0 +1,2 @@
+-- Layer 3: the anomaly search. Read the files in this order.
+pub mod Residual
