@@ -1,0 +1,49 @@
+# make run      the root of a number through the C library: make run NUMBER=2.25
+# make check    all that must hold; ends in rt ci, whose last line is 'N passed, 0 failed'
+# make test     the C tests alone
+# make lib      build/libkelubashi.a, for x86-64, from proved crates only
+# make clean    remove build/ and rt's target/
+
+X86 = sh tests/machine.sh
+STRICT = -std=c99 -Wall -Wextra -pedantic -Werror -O2 -ffp-contract=off
+TESTS = build/tests/root
+
+# One step at a time, in the order written: what is cheap to find wrong comes before what takes minutes.
+.NOTPARALLEL:
+.PHONY: run check test lib clean kit layout machine header
+
+run: build/host/root
+	@$(X86) run $< $(if $(NUMBER),"$(NUMBER)")
+
+check: layout test
+	@rt ci
+
+test: machine header $(TESTS)
+	@for test in $(TESTS); do $(X86) run "$$test" || exit 1; done
+
+# Always asked of rt, which alone knows by content what target/ has proved already. rt ci removes
+# target/ and proves all anew, so a copy stays in build/ for the hosts.
+lib: kit
+	@mkdir -p build
+	@echo 'library: rt proves what target/ does not have yet, then build/libkelubashi.a is written'
+	@rt staticlib kelubashi >build/library.log 2>&1 || { cut -c 1-1500 build/library.log; exit 1; }
+	@cp target/staticlib/libkelubashi.a build/
+
+clean:
+	rm -rf build target
+
+kit:
+	@command -v rt >/dev/null || { echo 'rt is not found: put the Rattle kit on this machine and its rt on PATH'; exit 1; }
+
+layout: kit
+	@rt fmt --check || { echo 'layout: run rt fmt, and look at what it changed'; exit 1; }
+
+machine:
+	@$(X86) ready
+
+header:
+	@sh tests/header.sh
+
+build/%: %.c include/kelubashi.h machine lib
+	@mkdir -p $(@D)
+	@$(X86) compile $(STRICT) -Iinclude -o $@ $< build/libkelubashi.a -lm

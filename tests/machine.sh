@@ -1,0 +1,86 @@
+#!/bin/sh
+# Compiles and runs C for x86-64, the one processor that the library is made for.
+#
+#     machine.sh ready              see that both can be done here; where root, install what is missing
+#     machine.sh compile WORD..     the C compiler with these words
+#     machine.sh run PROGRAM WORD.. the program with these words
+#
+# On x86-64 these are the machine's own compiler and the program itself, on aarch64 Debian's cross
+# compiler and its user emulator. Link dynamically: the cross compiler's static libm is broken.
+set -eu
+
+build=$(dirname "$0")/../build
+machine=$(uname -m)
+case $machine in
+x86_64) packages='gcc libc6-dev' ;;
+aarch64) packages='gcc-x86-64-linux-gnu libc6-dev-amd64-cross qemu-user' ;;
+*)
+    echo "machine: the library runs on x86-64, and under an emulator on aarch64; this is $machine: use one of those" >&2
+    exit 1
+    ;;
+esac
+
+compile() {
+    if [ "$machine" = aarch64 ]; then
+        x86_64-linux-gnu-gcc "$@"
+    elif command -v cc >/dev/null; then
+        cc "$@"
+    else
+        gcc "$@"
+    fi
+}
+
+run() {
+    if [ "$machine" = aarch64 ]; then
+        libc=$(x86_64-linux-gnu-gcc -print-file-name=libc.so.6)
+        # the folder above that of the C library: programs look for lib64/ and lib/ there
+        qemu-x86_64 -L "${libc%/*}/.." "$@"
+    else
+        "$@"
+    fi
+}
+
+# A whole round, since a compiler without headers, or an emulator without the C library, is as good as none.
+works() {
+    printf '#include <math.h>\n#include <stdio.h>\nint main(void) { return 0; }\n' >"$build/trial.c"
+    compile -o "$build/trial" "$build/trial.c" && run "$build/trial"
+}
+
+install() {
+    export DEBIAN_FRONTEND=noninteractive
+    # shellcheck disable=SC2086 # a list of words
+    apt-get install -y -qq --no-install-recommends $packages
+}
+
+ready() {
+    mkdir -p "$build"
+    log=$build/machine.log
+    if works >"$log" 2>&1; then
+        return
+    fi
+    advice="as root on Debian: apt-get install $packages (build/machine.log has what was tried)"
+    if [ "$(id -u)" -ne 0 ] || ! command -v apt-get >/dev/null; then
+        echo "machine: C for x86-64 cannot be compiled and run here; $advice" >&2
+        exit 1
+    fi
+    echo "machine: installing $packages"
+    # a fresh machine has no lists of packages, or old ones
+    { install || { apt-get update -qq && install; }; } >>"$log" 2>&1 || true
+    if ! works >>"$log" 2>&1; then
+        echo "machine: installing did not help: C for x86-64 cannot be compiled and run here; $advice" >&2
+        exit 1
+    fi
+}
+
+verb=${1:-}
+case $verb in
+ready) ready ;;
+compile | run)
+    shift
+    "$verb" "$@"
+    ;;
+*)
+    echo 'usage: machine.sh ready | compile WORD.. | run PROGRAM WORD..' >&2
+    exit 1
+    ;;
+esac
