@@ -1,5 +1,6 @@
 // A double crosses every border of this project as its 64-bit word: a sign bit, 11 bits of exponent field, 52 digits.
 ghost use mathlib.Core.Path.{_≡_};
+ghost use Rattle.bits.specs.Arithmetic.{isFinite};
 ghost use Rattle.bits.specs.Words.{kindOf, figureOf};
 
 // The weight of a word's sign bit.
@@ -41,4 +42,11 @@ pub fn figure_of(word: u64) -> Figure
         Kind::Normal => Figure::Finite(f64::from_bits(word)),
         Kind::NotFinite => Figure::NotFinite,
     }
+}
+
+// Whether a double is neither a NaN nor an infinity.
+pub fn is_finite(x: f64) -> bool
+    ensures { λ r. ⌜ r ≡ isFinite x ⌝ }
+{
+    x < 1.0 / 0.0 && x > -(1.0 / 0.0)
 }

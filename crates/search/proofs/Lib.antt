@@ -1,0 +1,3 @@
+-- The laws of the rule's history, for any trial function and any proposal, and then those of document 01's search.
+pub mod Counts
+pub mod Turns

@@ -1,0 +1,84 @@
+-- What the code's loops cite: a turn of the history at a time. The three proposals look at the pair alone, so what is left of the history does not depend on
+-- the points tried before, nor on the round's number.
+use Prim.Native.Nat.{ℕ, zero, suc, _+_, _-_, _^_, _≤_, _<_}
+use mathlib.Core.Path.{_≡_, refl, ap, sym, _∙_}
+use mathlib.Core.Bool.{Bool, true, false}
+use mathlib.Core.List.{List, [], _∷_, _++_}
+use mathlib.Core.Logic.{⊎-elim}
+use native.Mathlib.Omega.{arith}
+use lib.Ieee.{Float}
+use types.Run.{OneOf}
+use denote.Enum.Declared.{tagOf}
+use Rattle.bits.specs.Choice.{pick}
+use Rattle.search.proofs.pair.Next.{the-type}
+use Rattle.search.specs.declared.trial.Trial.{Trial}
+use Rattle.search.specs.declared.pair.Pair.{Pair}
+use Rattle.search.specs.declared.pair.Next.{Next}
+use Rattle.search.specs.declared.pair.Next.the-variants as next
+use Rattle.search.specs.History.{Point, Trials, Proposal, between, exact, unreadable, allShort, History, tries, ends, onward, Outward, on, stop, outwardStep, goingOn, outward, isWide, round, inward, ended, counted}
+
+-- After a part as the code keeps it: the next part, where it ended with a pair.
+abbrev pub after : Next → (Pair → History) → Next
+after (next.Between s n) f = counted n (f s)
+after (next.Exact p n) f = next.Exact p n
+after (next.Unreadable n) f = next.Unreadable n
+after (next.AllShort n) f = next.AllShort n
+
+-- The next part is f, whatever was tried.
+pub counted-onward : (n : ℕ) (tried : List Point) (h : History) (f : List Point → Pair → History) (g : Pair → History) → ((l : List Point) (s : Pair) → f l s ≡ g s)
+    → counted n (onward tried h f) ≡ after (counted n h) g
+unfolding counted onward
+counted-onward n tried (tries p h) f g e = counted-onward (n + 1) (tried ++ (p ∷ [])) h f g e
+counted-onward n tried (ends (between s)) f g e = ap (counted n) (e tried s)
+counted-onward n tried (ends (exact p)) f g e = refl
+counted-onward n tried (ends unreadable) f g e = refl
+counted-onward n tried (ends allShort) f g e = refl
+
+-- A place that a `_` arm hands on whole is no pair, so nothing follows it.
+pub handed-on : (r : Next) (f : Pair → History) → OneOf (1 ∷ 2 ∷ 3 ∷ []) (tagOf the-type r) → r ≡ after r f
+handed-on (next.Between s n) f h = absurd (⊎-elim (λ (e : 0 ≡ 1). omega arith) (⊎-elim (λ (e : 0 ≡ 2). omega arith) (λ (e : 0 ≡ 3). omega arith)) h)
+handed-on (next.Exact p n) f h = refl
+handed-on (next.Unreadable n) f h = refl
+handed-on (next.AllShort n) f h = refl
+
+module _ (ev : Trials) where
+  -- ---- outward
+  outward-left : (k short : ℕ) (error : Float) (place : ℕ) → 0 < k
+      → outward ev k short error place ≡ tries (record { place = place; trial = ev place }) (goingOn (outwardStep short error place (ev place)) (λ r. outward ev (k - 1) place r (place + 2 ^ 52)))
+  unfolding outward
+  outward-left zero short error place h = absurd (omega arith)
+  outward-left (suc k) short error place h =
+      let e : k ≡ suc k - 1 = omega arith in
+      ap (λ (j : ℕ). tries (record { place = place; trial = ev place }) (goingOn (outwardStep short error place (ev place)) (λ r. outward ev j place r (place + 2 ^ 52)))) e
+
+  pub outward-turn : (k n short : ℕ) (error : Float) (place : ℕ) → 0 < k
+      → counted n (outward ev k short error place) ≡ counted (n + 1) (goingOn (outwardStep short error place (ev place)) (λ r. outward ev (k - 1) place r (place + 2 ^ 52)))
+  unfolding counted
+  outward-turn k n short error place h = ap (counted n) (outward-left k short error place h)
+
+  pub outward-none : (k n short : ℕ) (error : Float) (place : ℕ) → k ≤ 0 → next.AllShort n ≡ counted n (outward ev k short error place)
+  unfolding outward counted
+  outward-none zero n short error place h = refl
+  outward-none (suc k) n short error place h = absurd (omega arith)
+
+  -- ---- inward, where the proposal looks at the pair alone
+  module _ (propose : Pair → ℕ) where
+    abbrev pairOnly : Proposal
+    pairOnly round tried s = propose s
+
+    onward-same : (tried : List Point) (h : History) (f g : List Point → Pair → History) → ((l l' : List Point) (s : Pair) → f l s ≡ g l' s) → (tried' : List Point) → onward tried h f ≡ onward tried' h g
+    unfolding onward
+    onward-same tried (tries p h) f g e tried' = ap (tries p) (onward-same (tried ++ (p ∷ [])) h f g e (tried' ++ (p ∷ [])))
+    onward-same tried (ends (between s)) f g e tried' = e tried tried' s
+    onward-same tried (ends (exact p)) f g e tried' = refl
+    onward-same tried (ends unreadable) f g e tried' = refl
+    onward-same tried (ends allShort) f g e tried' = refl
+
+    pub round-same : (k : ℕ) (tried : List Point) (s : Pair) → round ev pairOnly k tried s ≡ round ev pairOnly 0 [] s
+    unfolding round
+    round-same k tried s = ?
+
+    pub inward-same : (left k : ℕ) (tried : List Point) (s : Pair) → inward ev pairOnly left k tried s ≡ inward ev pairOnly left 0 [] s
+    unfolding inward
+    inward-same zero k tried s = refl
+    inward-same (suc left) k tried s = ?
