@@ -23,6 +23,12 @@ no-nan nan h = absurd (true≢false (sym nan-differs ∙ h))
 no-nan (inf s) h = tt
 no-nan (fin s m e) h = tt
 
+pub finite-no-nan : (x : Float) → finite x ≡ true → T (not (isNan x))
+unfolding isNan
+finite-no-nan nan h = absurd (true≢false (sym h))
+finite-no-nan (inf s) h = tt
+finite-no-nan (fin s m e) h = tt
+
 pub no-nan-bits : (w : ℕ) → fieldOf w ≤ 2046 → T (not (nanBits binary64 w))
 no-nan-bits w h =
     let l : w % 2 ^ 63 ≤ infinity = omega arith in

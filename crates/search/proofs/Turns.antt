@@ -15,7 +15,9 @@ use Rattle.search.specs.declared.trial.Trial.{Trial}
 use Rattle.search.specs.declared.pair.Pair.{Pair}
 use Rattle.search.specs.declared.pair.Next.{Next}
 use Rattle.search.specs.declared.pair.Next.the-variants as next
-use Rattle.search.specs.History.{Point, Trials, Proposal, between, exact, unreadable, allShort, History, tries, ends, onward, Outward, on, stop, outwardStep, goingOn, outward, isWide, round, inward, ended, counted}
+use Rattle.search.specs.declared.pair.Step.the-variants as step
+use Rattle.search.specs.History.{Point, Trials, Proposal, between, exact, unreadable, allShort, History, tries, ends, onward, Outward, on, stop, outwardStep, goingOn, outward, attempt, isWide, isInside, halving, round, inward, ended, counted, stepped}
+use Rattle.search.proofs.Counts.{points, used, used-is}
 
 -- After a part as the code keeps it: the next part, where it ended with a pair.
 abbrev pub after : Next → (Pair → History) → Next
@@ -33,6 +35,25 @@ counted-onward n tried (ends (between s)) f g e = ap (counted n) (e tried s)
 counted-onward n tried (ends (exact p)) f g e = refl
 counted-onward n tried (ends unreadable) f g e = refl
 counted-onward n tried (ends allShort) f g e = refl
+
+-- So the code goes on from what it has of a part.
+pub followed : {x : Next} (n : ℕ) (tried : List Point) (h : History) (f : List Point → Pair → History) (g : Pair → History) → ((l : List Point) (s : Pair) → f l s ≡ g s)
+    → x ≡ counted n h → after x g ≡ counted n (onward tried h f)
+followed n tried h f g e p = ap (λ (y : Next). after y g) p ∙ sym (counted-onward n tried h f g e)
+
+-- A pair that a part ended with has that part's points more.
+pub between-used : {x : Next} (q : Pair) {m : ℕ} (n : ℕ) (h : History) → x ≡ counted n h → x ≡ next.Between q m → m ≡ n + points h
+between-used q n h e g = ap used (sym g ∙ e) ∙ used-is n h
+
+-- An outward step as the code has it: an end, or the next point.
+pub stops : (n : ℕ) (o : Outward) (f : Float → History) {x : Next} → stepped n o ≡ step.Stop x → x ≡ counted n (goingOn o f)
+unfolding counted
+stops n (on r) f e = absurd (let z : _≡_ {A = ℕ} 0 1 = cc in omega arith)
+stops n (stop e) f g = cc
+
+pub goes-on : (n : ℕ) (o : Outward) (f : Float → History) {r : Float} → stepped n o ≡ step.On r → counted n (goingOn o f) ≡ counted n (f r)
+goes-on n (on q) f {r} e = let same : q ≡ r = cc in ap (λ (x : Float). counted n (f x)) same
+goes-on n (stop e) f g = absurd (let z : _≡_ {A = ℕ} 0 1 = cc in omega arith)
 
 -- A place that a `_` arm hands on whole is no pair, so nothing follows it.
 pub handed-on : (r : Next) (f : Pair → History) → OneOf (1 ∷ 2 ∷ 3 ∷ []) (tagOf the-type r) → r ≡ after r f
@@ -74,11 +95,43 @@ module _ (ev : Trials) where
     onward-same tried (ends unreadable) f g e tried' = refl
     onward-same tried (ends allShort) f g e tried' = refl
 
-    pub round-same : (k : ℕ) (tried : List Point) (s : Pair) → round ev pairOnly k tried s ≡ round ev pairOnly 0 [] s
+    round-same : (k : ℕ) (tried : List Point) (s : Pair) → round ev pairOnly k tried s ≡ round ev pairOnly 0 [] s
     unfolding round
-    round-same k tried s = ?
+    round-same k tried s =
+        ap (λ (h : History). pick (isInside s (propose s)) h (halving ev s))
+        (onward-same tried (attempt ev s (propose s)) (λ _. halving ev) (λ _. halving ev) (λ l l' s. refl) [])
 
     pub inward-same : (left k : ℕ) (tried : List Point) (s : Pair) → inward ev pairOnly left k tried s ≡ inward ev pairOnly left 0 [] s
     unfolding inward
     inward-same zero k tried s = refl
-    inward-same (suc left) k tried s = ?
+    inward-same (suc left) k tried s =
+        ap (λ (h : History). pick (isWide s) h (ends (between s)))
+        (onward-same tried (round ev pairOnly k tried s) (inward ev pairOnly left (k + 1)) (inward ev pairOnly left (0 + 1))
+        (λ l l' s. inward-same left (k + 1) l s ∙ sym (inward-same left (0 + 1) l' s)) []
+        ∙ ap (λ (h : History). onward [] h (inward ev pairOnly left (0 + 1))) (round-same k tried s))
+
+    -- What is left to do from a pair, with the points used so far.
+    abbrev rest : ℕ → Pair → History
+    rest left s = inward ev pairOnly left 0 [] s
+
+    inward-left : (left : ℕ) (s : Pair) → 0 < left → rest left s ≡ pick (isWide s) (onward [] (round ev pairOnly 0 [] s) (inward ev pairOnly (left - 1) (0 + 1))) (ends (between s))
+    unfolding inward
+    inward-left zero s h = absurd (omega arith)
+    inward-left (suc k) s h =
+        let e : k ≡ suc k - 1 = omega arith in
+        ap (λ (j : ℕ). pick (isWide s) (onward [] (round ev pairOnly 0 [] s) (inward ev pairOnly j (0 + 1))) (ends (between s))) e
+
+    pub inward-turn : (left n : ℕ) (s : Pair) → 0 < left → isWide s ≡ true → counted n (rest left s) ≡ after (counted n (round ev pairOnly 0 [] s)) (rest (left - 1))
+    inward-turn left n s h w =
+        ap (counted n) (inward-left left s h)
+        ∙ rw w (counted-onward n [] (round ev pairOnly 0 [] s) (inward ev pairOnly (left - 1) (0 + 1)) (rest (left - 1)) (λ l s. inward-same (left - 1) (0 + 1) l s))
+
+    pub inward-narrow : (left n : ℕ) (s : Pair) → isWide s ≡ false → next.Between s n ≡ counted n (rest left s)
+    unfolding inward counted
+    inward-narrow zero n s w = refl
+    inward-narrow (suc left) n s w = rw w
+
+    pub inward-none : (left n : ℕ) (s : Pair) → left ≤ 0 → next.Between s n ≡ counted n (rest left s)
+    unfolding inward counted
+    inward-none zero n s h = refl
+    inward-none (suc left) n s h = absurd (omega arith)

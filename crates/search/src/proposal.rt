@@ -26,16 +26,17 @@ fn offered(tau: Seconds, pair: Pair, x: f64) -> u64
 {
     if bits::words::is_finite(x) {
         let word = f64::to_bits(x);
+        let place = word % SIGN;
         if tau.0 < 0.0 {
             if word < SIGN {
                 return 0;
             }
-            return inside(pair, word - SIGN);
+            return inside(pair, place);
         }
         if SIGN <= word {
             return 0;
         }
-        return inside(pair, word);
+        return inside(pair, place);
     }
     0
 }

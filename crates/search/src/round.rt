@@ -54,6 +54,7 @@ pub fn round(initial: Initial, tau: Seconds, s: Pair, points: u64) -> Next
         if place < s.past {
             return proposed_first(initial, tau, s, place, points);
         }
+        return halved(initial, tau, s, points);
     }
     halved(initial, tau, s, points)
 }

@@ -1,0 +1,96 @@
+-- What is left of the outward history, from here, ends as all of it does from the first place; the place stays below the word's end.
+use Prim.Native.Nat.{_+_, _-_, _*_, _^_, _≤_}
+use mathlib.Core.Path.{_≡_, refl, sym, _∙_}
+use native.Mathlib.Omega.{arith}
+use borrow.Author.Needs.{needs}
+use lib.Ieee.{Float, neg}
+use Rattle.search.specs.Trial.{trialAt}
+use Rattle.search.specs.History.{outward, outwardStep, counted}
+use Rattle.search.specs.Search.{outwardAt}
+use Rattle.search.proofs.Turns.{outward-turn, outward-none, stops, goes-on}
+use Rattle.search.proofs.outward.Statement.{statement}
+use Rattle.search.proofs.outward.Tie as tie
+
+abbrev Inv-loop : tie.InvT-loop
+Inv-loop initial tau first short₀ short-error₀ place₀ points₀ left₀ short short-error place points left =
+    (counted points (outwardAt initial tau left short short-error place) ≡ counted 0 (outwardAt initial tau 41 0 (neg (tau .0)) first))
+    × (points + left ≤ 41)
+    × (place + left * 2 ^ 52 ≤ first + 41 * 2 ^ 52)
+
+abbrev μ-loop : tie.MeasureT-loop
+μ-loop initial tau first short₀ short-error₀ place₀ points₀ left₀ short short-error place points left = left
+
+loop-holds : tie.Need-loop-holds Inv-loop μ-loop
+loop-holds c = (refl, omega arith, omega arith)
+
+add-outward-step : tie.Need-add-outward-step Inv-loop μ-loop
+add-outward-step c = omega arith
+
+outward-step-requires : tie.Need-outward-step-requires Inv-loop μ-loop
+outward-step-requires c κs = search needs
+
+enum-known-step : tie.Need-enum-known-step Inv-loop μ-loop
+enum-known-step c = search needs
+
+enum-known-step-2 : tie.Need-enum-known-step-2 Inv-loop μ-loop
+enum-known-step-2 c = search needs
+
+returns : tie.Need-returns Inv-loop μ-loop
+returns c =
+    let l = c .before .before .before .before .before .loop in
+    let a = c .before .before .before .before .before .before .before .args in
+    let ev = trialAt (a .initial) (a .tau) in
+    stops (l .points + 1) (outwardStep (l .short) (l .short-error) (l .place) (ev (l .place))) (λ r. outward ev (l .left - 1) (l .place) r (l .place + 2 ^ 52))
+    (sym (c .before .before .before .outward-step .ensures) ∙ c .before .step2 .given .1)
+    ∙ sym (outward-turn ev (l .left) (l .points) (l .short) (l .short-error) (l .place) (c .before .before .before .before .loop-test .taken))
+    ∙ l .inv .0
+
+add-place : tie.Need-add-place Inv-loop μ-loop
+add-place c = omega (arith, c .before .before .before .before .before .before .before .pre)
+
+add-points : tie.Need-add-points Inv-loop μ-loop
+add-points c = omega arith
+
+sub-left : tie.Need-sub-left Inv-loop μ-loop
+sub-left c = omega arith
+
+loop-less : tie.Need-loop-less Inv-loop μ-loop
+loop-less c = omega arith
+
+loop-again : tie.Need-loop-again Inv-loop μ-loop
+loop-again c =
+    let l = c .before .before .before .before .before .loop in
+    let a = c .before .before .before .before .before .before .before .args in
+    let ev = trialAt (a .initial) (a .tau) in (
+      sym (goes-on (l .points + 1) (outwardStep (l .short) (l .short-error) (l .place) (ev (l .place))) (λ r. outward ev (l .left - 1) (l .place) r (l .place + 2 ^ 52))
+          (sym (c .before .before .before .outward-step .ensures) ∙ c .before .step .given .1))
+          ∙ sym (outward-turn ev (l .left) (l .points) (l .short) (l .short-error) (l .place) (c .before .before .before .before .loop-test .taken))
+          ∙ l .inv .0,
+      omega arith,
+      omega arith,
+    )
+
+returns-2 : tie.Need-returns-2 Inv-loop μ-loop
+returns-2 c =
+    let l = c .before .loop in
+    let a = c .before .before .before .args in
+    outward-none (trialAt (a .initial) (a .tau)) (l .left) (l .points) (l .short) (l .short-error) (l .place) (c .loop-test .left) ∙ l .inv .0
+
+pub outward-spec : {M : Type 1} → statement M
+outward-spec =
+    tie.close
+    (tie.spec
+    Inv-loop
+    μ-loop
+    loop-holds
+    add-outward-step
+    outward-step-requires
+    enum-known-step
+    enum-known-step-2
+    returns
+    add-place
+    add-points
+    sub-left
+    loop-less
+    loop-again
+    returns-2)

@@ -1,0 +1,89 @@
+-- The outward history, then the inward one where it left a pair, is the whole one.
+use Prim.Native.Nat.{ℕ, _<_}
+use mathlib.Core.Path.{_≡_, refl, sym, ap, _∙_}
+use mathlib.Core.Bool.{false}
+use mathlib.Core.List.{[]}
+use native.Mathlib.Omega.{arith}
+use borrow.Author.Needs.{needs}
+use lib.Ieee.{Float, neg, eq}
+use Rattle.bits.specs.Arithmetic.{n0}
+use Rattle.series.specs.declared.figures.Seconds.{Seconds}
+use Rattle.search.specs.declared.figures.Initial.{Initial}
+use Rattle.search.specs.declared.pair.Next.{Next}
+use Rattle.search.specs.Trial.{placeOf, trialAt}
+use Rattle.search.specs.Proposals.{proposed, threeProposals}
+use Rattle.search.specs.History.{outward, inward, history, counted}
+use Rattle.search.specs.Search.{outwardAt, inwardAt, historyAt, answerOf, searchOf}
+use Rattle.search.proofs.Counts.{outward-points}
+use Rattle.search.proofs.Turns.{after, followed, between-used, handed-on, inward-same}
+use Rattle.search.proofs.search.Statement.{statement}
+use Rattle.search.proofs.search.Tie as tie
+
+whole : (i : Initial) (tau : Seconds) (h : Float) {p : ℕ} {x : Next} → p ≡ placeOf h → x ≡ counted 0 (outwardAt i tau 41 0 (neg (tau .0)) p)
+    → after x (inwardAt i tau 63) ≡ counted 0 (historyAt i tau (placeOf h))
+unfolding history
+whole i tau h e o =
+    followed 0 [] (outwardAt i tau 41 0 (neg (tau .0)) (placeOf h)) (inward (trialAt i tau) (threeProposals i tau) 63 0) (inwardAt i tau 63)
+    (inward-same (trialAt i tau) (proposed i tau) 63 0)
+    (o ∙ ap (λ (q : ℕ). counted 0 (outwardAt i tau 41 0 (neg (tau .0)) q)) e)
+
+of-interval : (i : Initial) (tau : Seconds) (h : Float) → eq (tau .0) n0 ≡ false → answerOf tau (counted 0 (historyAt i tau (placeOf h))) ≡ searchOf i tau h
+unfolding searchOf
+of-interval i tau h e = sym (rw e)
+
+returns : tie.Need-returns
+unfolding searchOf
+returns c = simp (c .if1 .taken)
+
+place-of-requires : tie.Need-place-of-requires
+place-of-requires c κs = search needs
+
+outward-requires : tie.Need-outward-requires
+outward-requires c κs = search needs
+
+enum-known-next : tie.Need-enum-known-next
+enum-known-next c = search needs
+
+inward-requires : tie.Need-inward-requires
+inward-requires c κs =
+    let a = c .before .before .before .before .before .before .before .args in
+    omega (arith, between-used _ _ _ (c .before .before .before .outward .ensures) (c .before .next .given .1), outward-points (trialAt (a .initial) (a .tau)) 41 0 (neg (a .tau .0)) (c .before .before .before .before .place-of .result))
+
+answer-requires : tie.Need-answer-requires
+answer-requires c κs = search needs
+
+answer-requires-2 : tie.Need-answer-requires-2
+answer-requires-2 c κs = search needs
+
+returns-2 : tie.Need-returns-2
+returns-2 c =
+    let a = c .before .before .before .before .before .before .before .before .before .args in
+    c .answer .ensures
+    ∙ ap (answerOf (a .tau))
+    (c .before .inward .ensures
+    ∙ ap (λ (y : Next). after y (inwardAt (a .initial) (a .tau) 63)) (sym (c .before .before .before .next .given .1))
+    ∙ whole (a .initial) (a .tau) (a .h) (c .before .before .before .before .before .before .place-of .ensures) (c .before .before .before .before .before .outward .ensures))
+    ∙ of-interval (a .initial) (a .tau) (a .h) (c .before .before .before .before .before .before .before .if1 .left)
+
+returns-3 : tie.Need-returns-3
+returns-3 c =
+    let a = c .before .before .before .before .before .before .args in
+    c .answer2 .ensures
+    ∙ ap (answerOf (a .tau))
+    (handed-on (c .before .before .outward .result) (inwardAt (a .initial) (a .tau) 63) (c .before .match .keys2)
+    ∙ whole (a .initial) (a .tau) (a .h) (c .before .before .before .place-of .ensures) (c .before .before .outward .ensures))
+    ∙ of-interval (a .initial) (a .tau) (a .h) (c .before .before .before .before .if1 .left)
+
+pub search-spec : {M : Type 1} → statement M
+search-spec =
+    tie.close
+    (tie.spec
+    returns
+    place-of-requires
+    outward-requires
+    enum-known-next
+    inward-requires
+    answer-requires
+    answer-requires-2
+    returns-2
+    returns-3)

@@ -1,0 +1,45 @@
+-- Where L is finite, the point is what the series and the time error give.
+use mathlib.Core.Path.{sym, _∙_}
+use borrow.Author.Needs.{needs}
+use Rattle.search.specs.Trial.{evaluatedAt}
+use Rattle.search.proofs.trial.evaluated.Statement.{statement}
+use Rattle.search.proofs.trial.evaluated.Tie as tie
+
+is-finite-requires : tie.Need-is-finite-requires
+is-finite-requires c κs = search needs
+
+coefficients-requires : tie.Need-coefficients-requires
+coefficients-requires c κs = search needs
+
+sums-requires : tie.Need-sums-requires
+sums-requires c κs = search needs
+
+time-error-requires : tie.Need-time-error-requires
+time-error-requires c κs = search needs
+
+sort-of-requires : tie.Need-sort-of-requires
+sort-of-requires c κs = search needs
+
+returns : tie.Need-returns
+unfolding evaluatedAt
+returns c = simp (sym (c .before .before .before .before .before .is-finite .ensures) ∙ c .before .before .before .before .if1 .taken, c .sort-of .ensures, c .before .time-error .ensures, c .before .before .sums .ensures, c .before .before .before .coefficients .ensures)
+
+unevaluated-as-requires : tie.Need-unevaluated-as-requires
+unevaluated-as-requires c κs = search needs
+
+returns-2 : tie.Need-returns-2
+unfolding evaluatedAt
+returns-2 c = simp (sym (c .before .before .is-finite .ensures) ∙ c .before .if1 .left) (c .unevaluated-as .ensures)
+
+pub evaluated-spec : {M : Type 1} → statement M
+evaluated-spec =
+    tie.close
+    (tie.spec
+    is-finite-requires
+    coefficients-requires
+    sums-requires
+    time-error-requires
+    sort-of-requires
+    returns
+    unevaluated-as-requires
+    returns-2)
