@@ -1,11 +1,20 @@
 -- The tests are those of the definition, in its order.
+use mathlib.Core.Path.{_≡_}
+use mathlib.Core.Bool.{true}
+use lib.Ieee.{Float, ne}
+use Rattle.series.specs.declared.figures.Seconds.{Seconds}
+use Rattle.search.specs.declared.figures.Sort.the-variants.{Unreadable}
 use Rattle.search.specs.Trial.{sortOf}
 use Rattle.search.proofs.trial.sort_of.Statement.{statement}
 use Rattle.search.proofs.trial.sort_of.Tie as tie
 
-returns : tie.Need-returns
+-- Only a NaN differs from itself: an infinite R counts by its sign.
+unreadable : (tau : Seconds) (error : Float) → ne error error ≡ true → Unreadable ≡ sortOf tau error
 unfolding sortOf
-returns c = simp (c .if1 .taken)
+unreadable tau error h = simp h
+
+returns : tie.Need-returns
+returns c = unreadable (c .before .args .tau) (c .before .args .error) (c .if1 .taken)
 
 returns-2 : tie.Need-returns-2
 unfolding sortOf
