@@ -1,5 +1,6 @@
 // A double crosses every border of this project as its 64-bit word: a sign bit, 11 bits of exponent field, 52 digits.
 ghost use mathlib.Core.Path.{_≡_};
+ghost use lib.Ieee.{binary64, toBits};
 ghost use Rattle.bits.specs.Arithmetic.{isFinite};
 ghost use Rattle.bits.specs.Words.{kindOf, figureOf};
 
@@ -49,4 +50,14 @@ pub fn is_finite(x: f64) -> bool
     ensures { λ r. ⌜ r ≡ isFinite x ⌝ }
 {
     x < 1.0 / 0.0 && x > -(1.0 / 0.0)
+}
+
+// The word of a double. Every NaN is one value, and has the word of one of them.
+pub fn word_of(x: f64) -> u64
+    ensures { λ r. ⌜ r ≡ toBits binary64 x ⌝ }
+{
+    if x != x {
+        return 0x7ff8_0000_0000_0000;
+    }
+    f64::to_bits(x)
 }

@@ -23,10 +23,7 @@ pub struct Trial {
 pub fn place_of(x: f64) -> u64
     ensures { λ r. ⌜ r ≡ placeOf x ⌝ }
 {
-    if x != x {
-        return 0x7ff8_0000_0000_0000;
-    }
-    f64::to_bits(x) % SIGN
+    bits::words::word_of(x) % SIGN
 }
 
 // The anomaly at a place: it has the sign of tau.
