@@ -6,6 +6,18 @@ ghost use Rattle.kelubashi.specs.Face.{returned, written};
 ghost use Rattle.bits.specs.Root.{rootRefusalOf, rootWordOf};
 ghost use mathlib.Core.List.{[], _∷_};
 
+// Writes an answer's words to a run of their length.
+fn put(words: &[u64], run: &mut [u64])
+    requires { ⌜ length (now run) ≡ length (now words) ⌝ }
+    ensures { λ _. ⌜ now (run .exit) ≡ now (words .entry) ⌝ }
+{
+    let mut k = 0usize;
+    while k < words.len() {
+        run[k] = words[k];
+        k += 1;
+    }
+}
+
 // The square root of the double of a word, to an answer run of one word.
 #[no_mangle]
 pub extern "C" fn kelubashi1_root(word: u64, answer: &mut [u64]) -> u64
