@@ -6,7 +6,7 @@ use native.Mathlib.Nat.{mul-one}
 use native.Mathlib.Decide.{decLe, decLt}
 use native.Mathlib.Omega.{arith}
 use borrow.Author.Tests.{le-ltb, lt-leb, le-leb, leb-true, ne-eqb, eq-eqb}
-use lib.Dec.{T, ltb, leb, eqb}
+use lib.Dec.{T, leb, eqb}
 use lib.Ieee.{Float, nan, inf, fin, binary64, ne, isNan, nanBits, ofBits, ofFields, odd}
 use lib.Ieee.Bits.{nanBits-above, is-true}
 use lib.Ieee.Exact.{HasValue, odd-sign}

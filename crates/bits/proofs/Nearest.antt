@@ -1,8 +1,7 @@
--- From the 54 digits of a root to the nearest double. Assumes nothing.
-use mathlib.Core.Path.{_≡_, refl, sym, ap, ap₂, _∙_, subst}
-use mathlib.Core.Logic.{_⊎_, inl, inr, ⊎-elim}
-use Prim.Native.Nat.{ℕ, zero, suc, _+_, _-_, _*_, _/_, _%_, _^_, _≤_, _<_}
-use native.Mathlib.Nat.{le-refl, le-trans, le-of-eq, le-of-lt, lt-of-lt-of-le, lt-of-le-of-lt, lt-of-not-le, mul-le-mul, mul-lt-mul-of-pos-right, mul-le-mul-right, mul-assoc, mul-comm, mul-left-comm, mul-mul-mul-comm, mul-pos, mul-one, one-mul, add-mul, pow-suc, eq-or-lt-of-le, not-le-of-lt, eq-zero-or-pos}
+-- From the 54 digits of a root to the nearest double: half of them rounded up, a power of two apart.
+use mathlib.Core.Path.{_≡_, refl, sym, ap, _∙_}
+use Prim.Native.Nat.{ℕ, suc, _+_, _-_, _*_, _/_, _%_, _^_, _≤_, _<_}
+use native.Mathlib.Nat.{le-refl, le-trans, le-of-eq, le-of-lt, lt-of-lt-of-le, lt-of-le-of-lt, lt-of-not-le, mul-le-mul, mul-lt-mul-of-pos-right, mul-le-mul-right, mul-assoc, mul-comm, mul-left-comm, mul-mul-mul-comm, mul-pos, one-mul, add-mul, pow-suc, not-le-of-lt}
 use native.Mathlib.Decide.{decLt}
 use native.Mathlib.Omega.{arith}
 use lib.Pow.{pow-pos, pow-add}
@@ -10,14 +9,14 @@ use Rattle.bits.specs.Words.{units}
 use Rattle.bits.specs.Root.{rootSquared, middleSquared, NearestRoot}
 use Rattle.bits.proofs.Units.{units-at, step}
 
--- squares and their order
+-- Squares and their order.
 pub root-lt : (a b : ℕ) → a * a < b * b → a < b
 root-lt a b h = lt-of-not-le (λ (g : b ≤ a). not-le-of-lt h (mul-le-mul g g))
 
 square-lt : (a b : ℕ) → a < b → a * a < b * b
 square-lt a b h = lt-of-le-of-lt (mul-le-mul (le-refl a) (le-of-lt h)) (mul-lt-mul-of-pos-right h (omega arith))
 
--- ---- whole numbers: n, half of q rounded up, is nearest to half the root of x
+-- ---- Whole numbers: n, half of q rounded up, is nearest to half the root of m * 2 ^ 54.
 module _ (m q : ℕ) (lo : q * q ≤ m * 2 ^ 54) (hi : m * 2 ^ 54 < (q + 1) * (q + 1)) (M : 2 ^ 52 ≤ m) (N : m ≤ 2 ^ 54 - 2) where
   pub q-ge : 2 ^ 53 ≤ q
   q-ge = omega (arith, root-lt (2 ^ 53) (q + 1) (omega arith))
@@ -25,7 +24,7 @@ module _ (m q : ℕ) (lo : q * q ≤ m * 2 ^ 54) (hi : m * 2 ^ 54 < (q + 1) * (q
   pub q-le : q ≤ 2 ^ 54 - 2
   q-le = omega (arith, root-lt q (2 ^ 54 - 1) (omega arith))
 
-  -- an odd q has an odd square, and x is even
+  -- An odd q has an odd square, and m * 2 ^ 54 is even.
   not-square : (k : ℕ) → q ≡ 2 * k + 1 → q * q < m * 2 ^ 54
   not-square k e = let s : q * q ≡ (2 * k + 1) * (2 * k + 1) = ap (λ (z : ℕ). z * z) e in omega arith
 
@@ -40,7 +39,7 @@ module _ (m q : ℕ) (lo : q * q ≤ m * 2 ^ 54) (hi : m * 2 ^ 54 < (q + 1) * (q
   pub above : (n : ℕ) → n ≡ (q + 1) / 2 → m * 2 ^ 54 < (2 * n + 1) * (2 * n + 1)
   above n e = let l : q + 1 ≤ 2 * n + 1 = omega arith in lt-of-lt-of-le hi (mul-le-mul l l)
 
--- ---- the scale
+-- ---- The scale: half of the power goes before the root.
 two-halves : (e : ℕ) → (1 + e % 2) * (2 ^ (e / 2) * 2 ^ (e / 2)) ≡ 2 ^ e
 two-halves e = elim (decLt (e % 2) 1) [
   | yes even ↦
@@ -53,7 +52,7 @@ two-halves e = elim (decLt (e % 2) 1) [
       ap (λ (x : ℕ). x * (2 ^ (e / 2) * 2 ^ (e / 2))) z ∙ ap (λ (x : ℕ). 2 * x) (sym (pow-add 2 (e / 2) (e / 2))) ∙ mul-comm 2 (2 ^ (e / 2 + e / 2)) ∙ sym (pow-suc 2 (e / 2 + e / 2)) ∙ ap (λ (x : ℕ). 2 ^ x) (sym a)
 ]
 
--- u * A = m * p with p = o * (g * g), and h = g * c: then u * (A * (B * (c * c))) = m * o * B * (h * h)
+-- u * A = m * p with p = o * (g * g): then u * (A * (B * (c * c))) = m * o * B * ((g * c) * (g * c)).
 regroup : (u A B m p o g c : ℕ) → u * A ≡ m * p → o * (g * g) ≡ p → u * (A * (B * (c * c))) ≡ m * o * B * ((g * c) * (g * c))
 regroup u A B m p o g c e f =
     sym (mul-assoc u A (B * (c * c))) ∙ ap (λ (x : ℕ). x * (B * (c * c))) (e ∙ ap (λ (x : ℕ). m * x) (sym f)) ∙ simp (mul-assoc, mul-comm, mul-left-comm)
@@ -64,7 +63,6 @@ rootSquared-is b m e h =
     regroup (units b) (2 ^ 52) (2 ^ 54) m (2 ^ e) (1 + e % 2) (2 ^ (e / 2)) (2 ^ 485) h (two-halves e)
     ∙ ap (λ (x : ℕ). m * (1 + e % 2) * 2 ^ 54 * (x * x)) (sym (pow-add 2 (e / 2) 485))
 
--- (a * g) squared
 square-scaled : (a g : ℕ) → a * g * (a * g) ≡ a * a * (g * g)
 square-scaled a g = mul-mul-mul-comm a g a g
 
@@ -111,14 +109,14 @@ module _ (b x h n : ℕ) (t : rootSquared b ≡ x * (2 ^ h * 2 ^ h)) (H : 1 ≤ 
   pub nearest : NearestRoot b (h * 2 ^ 52 + n)
   nearest = record { positive = omega arith; bounded = omega arith; low = low; high = high }
 
--- m once or twice
+-- m once or twice keeps to 54 digits.
 pub shifted-small : (m e : ℕ) → 2 ^ 52 ≤ m → m < 2 ^ 53 → (2 ^ 52 ≤ m * (1 + e % 2)) × (m * (1 + e % 2) ≤ 2 ^ 54 - 2)
 shifted-small m e M N = elim (decLt (e % 2) 1) [
   | yes even ↦ let z : m * (1 + e % 2) ≡ m * 1 = ap (λ (x : ℕ). m * x) (omega arith) in omega arith
   | no odd ↦ let z : m * (1 + e % 2) ≡ m * 2 = ap (λ (x : ℕ). m * x) (omega arith) in omega arith
 ]
 
--- what `pack` returns
+-- What `packed_root` returns is the nearest double to the root.
 pub packed : (m e q : ℕ) → 2 ^ 52 ≤ m → m < 2 ^ 53 → e ≤ 2097 → q * q ≤ m * (1 + e % 2) * 2 ^ 54 → m * (1 + e % 2) * 2 ^ 54 < (q + 1) * (q + 1)
     → (b : ℕ) → units b * 2 ^ 52 ≡ m * 2 ^ e → NearestRoot b ((e / 2 + 485) * 2 ^ 52 + (q + 1) / 2)
 packed m e q M N E lo hi b h =

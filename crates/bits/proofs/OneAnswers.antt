@@ -1,5 +1,5 @@
 -- Each public function of layer 1 leaves one answer open.
-use mathlib.Core.Path.{_≡_, refl, sym, _∙_}
+use mathlib.Core.Path.{refl, sym, _∙_}
 use Rattle.bits.specs.OneAnswer.{OneAnswer}
 use Rattle.bits.proofs.Computed.{answered}
 use Rattle.bits.proofs.words.kind_of.Kinds as kind-of-kinds

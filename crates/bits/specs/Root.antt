@@ -2,7 +2,7 @@
 -- non-negative finite doubles; any other argument is refused with 9 and zero. The root of either zero is +0."
 use mathlib.Core.Path.{_≡_}
 use Prim.Native.Nat.{ℕ, zero, suc, _+_, _-_, _*_, _^_, _≤_, _<_}
-use mathlib.Core.Bool.{Bool, true, false, cond}
+use mathlib.Core.Bool.{cond}
 use lib.Dec.{ltb, leb, eqb}
 use lib.Ieee.{Float, binary64, ofBits, toBits}
 use Rattle.bits.specs.Choice.{pick}

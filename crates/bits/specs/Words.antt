@@ -1,5 +1,4 @@
 -- The words of doubles. Document 01: "Doubles are told apart by exponent field: 0 is zero or subnormal, 1 to 2046 normal, 2047 not finite."
-use mathlib.Core.Bool.{Bool, true, false}
 use Prim.Native.Nat.{ℕ, zero, suc, _+_, _*_, _/_, _%_, _^_}
 use lib.Dec.{eqb, leb}
 use lib.Ieee.{binary64, ofBits}

@@ -1,6 +1,6 @@
 -- How many points a history has, for any trial function and any proposal: one for a halving, two a round, one for each outward place.
 use Prim.Native.Nat.{ℕ, zero, suc, _+_, _*_, _^_, _≤_}
-use mathlib.Core.Path.{_≡_, refl, ap, sym, _∙_}
+use mathlib.Core.Path.{_≡_, refl, ap, _∙_}
 use mathlib.Core.Bool.{Bool, true, false}
 use mathlib.Core.List.{List, [], _∷_, _++_}
 use native.Mathlib.Omega.{arith}
@@ -10,7 +10,7 @@ use Rattle.bits.specs.Choice.{pick}
 use Rattle.search.specs.declared.pair.Pair.{Pair}
 use Rattle.search.specs.declared.pair.Next.{Next}
 use Rattle.search.specs.declared.pair.Next.the-variants as next
-use Rattle.search.specs.History.{Point, Trials, Proposal, End, between, exact, unreadable, allShort, History, tries, ends, pointsIn, endOf, onward, Outward, on, stop, outwardStep, goingOn, outward, moved, attempt, isWide, halfway, halving, isInside, round, inward, history, ended, counted}
+use Rattle.search.specs.History.{Point, Trials, Proposal, End, between, exact, unreadable, allShort, History, tries, ends, pointsIn, endOf, onward, Outward, on, stop, outwardStep, goingOn, outward, attempt, isWide, halfway, halving, isInside, round, inward, history, ended, counted}
 
 abbrev pub points : History → ℕ
 points h = length (pointsIn h)

@@ -2,7 +2,7 @@
 -- the points tried before, nor on the round's number.
 use Prim.Native.Nat.{ℕ, zero, suc, _+_, _-_, _^_, _≤_, _<_}
 use mathlib.Core.Path.{_≡_, refl, ap, sym, _∙_}
-use mathlib.Core.Bool.{Bool, true, false}
+use mathlib.Core.Bool.{true, false}
 use mathlib.Core.List.{List, [], _∷_, _++_}
 use mathlib.Core.Logic.{⊎-elim}
 use native.Mathlib.Omega.{arith}
@@ -11,12 +11,11 @@ use types.Run.{OneOf}
 use denote.Enum.Declared.{tagOf}
 use Rattle.bits.specs.Choice.{pick}
 use Rattle.search.proofs.pair.Next.{the-type}
-use Rattle.search.specs.declared.trial.Trial.{Trial}
 use Rattle.search.specs.declared.pair.Pair.{Pair}
 use Rattle.search.specs.declared.pair.Next.{Next}
 use Rattle.search.specs.declared.pair.Next.the-variants as next
 use Rattle.search.specs.declared.pair.Step.the-variants as step
-use Rattle.search.specs.History.{Point, Trials, Proposal, between, exact, unreadable, allShort, History, tries, ends, onward, Outward, on, stop, outwardStep, goingOn, outward, attempt, isWide, isInside, halving, round, inward, ended, counted, stepped}
+use Rattle.search.specs.History.{Point, Trials, Proposal, between, exact, unreadable, allShort, History, tries, ends, onward, Outward, on, stop, outwardStep, goingOn, outward, attempt, isWide, isInside, halving, round, inward, counted, stepped}
 use Rattle.search.proofs.Counts.{points, used, used-is}
 
 -- After a part as the code keeps it: the next part, where it ended with a pair.

@@ -4,7 +4,6 @@ use mathlib.Core.Path.{_≡_}
 use lib.Ieee.{Float}
 use Rattle.search.specs.declared.figures.Sort.{Sort}
 use Rattle.search.specs.declared.figures.Sort.the-variants.{Short, Past, Exact, Unreadable}
-use Rattle.search.specs.declared.trial.Trial.{Trial}
 use Rattle.search.specs.History.{Trials, Proposal, End, between, exact, unreadable, allShort, endOf, history}
 
 abbrev pub IsShort : Sort → Type 0

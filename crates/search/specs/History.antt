@@ -1,7 +1,7 @@
 -- The rule's own history (document 01, "The search"): every trial point in order, and how the search ends. It is written over any trial function, from a place
 -- to what is found there, and any proposal, which may look at the round's number, at all points tried so far and at the pair. The search of document 01 is one
 -- instance (Search.antt); its count of points is the history's length and nothing else.
-use Prim.Native.Nat.{ℕ, zero, suc, _+_, _-_, _*_, _/_, _^_}
+use Prim.Native.Nat.{ℕ, zero, suc, _+_, _-_, _/_, _^_}
 use mathlib.Core.Bool.{Bool, true, false, _&&_}
 use mathlib.Core.List.{List, [], _∷_, _++_}
 use lib.Dec.{ltb}

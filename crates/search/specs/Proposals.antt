@@ -2,13 +2,12 @@
 -- short end and b the past end. .. The first that is finite, has the sign of τ and lies strictly between the two places is tried; a zero divisor passes
 -- on to the next; if none fits, no proposal is tried in that round."
 -- A proposal is a place, and 0 where it does not fit: place 0 never lies strictly between two places.
-use mathlib.Core.Bool.{Bool, true, false, _&&_}
-use Prim.Native.Nat.{ℕ, _%_, _^_}
+use mathlib.Core.Bool.{Bool}
+use Prim.Native.Nat.{ℕ, _^_}
 use lib.Dec.{ltb, leb, eqb}
 use lib.Ieee.{Float, binary64, lt, eq, toBits}
 use Rattle.bits.specs.Choice.{pick}
 use Rattle.bits.specs.Arithmetic.{_⊖_, _⊗_, _⊘_, n0, n1, isFinite}
-use Rattle.series.specs.declared.figures.Anomaly.{Anomaly}
 use Rattle.series.specs.declared.figures.Seconds.{Seconds}
 use Rattle.search.specs.declared.figures.Initial.{Initial}
 use Rattle.search.specs.declared.pair.Pair.{Pair}

@@ -1,7 +1,6 @@
 -- The search of document 01: the rule's history at the time error's trial points and the three proposals.
 use Prim.Native.Nat.{ℕ}
 use mathlib.Core.List.{[]}
-use mathlib.Core.Bool.{Bool, true, false}
 use lib.Ieee.{Float, neg, eq}
 use Rattle.bits.specs.Choice.{pick}
 use Rattle.bits.specs.Arithmetic.{n0}

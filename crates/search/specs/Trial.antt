@@ -1,5 +1,4 @@
 -- One trial point (document 01, "The search"): a place, its anomaly, and its sort.
-use mathlib.Core.Bool.{Bool, true, false}
 use Prim.Native.Nat.{ℕ, _%_, _^_}
 use lib.Dec.{leb, eqb}
 use lib.Ieee.{Float, nan, binary64, neg, lt, eq, ne, ofBits, toBits}

@@ -8,7 +8,7 @@ use borrow.Author.Needs.{needs}
 use Rattle.search.specs.Trial.{trialAt}
 use Rattle.search.specs.Proposals.{proposed, threeProposals}
 use Rattle.search.specs.History.{counted}
-use Rattle.search.specs.Search.{roundAt, inwardAt}
+use Rattle.search.specs.Search.{inwardAt}
 use Rattle.search.specs.declared.pair.Next.{Next}
 use Rattle.search.proofs.Counts.{round-points}
 use Rattle.search.proofs.Turns.{after, handed-on, between-used, inward-turn, inward-narrow, inward-none}

@@ -3,7 +3,7 @@ use Prim.Native.Nat.{_+_, _-_, _*_, _^_, _≤_}
 use mathlib.Core.Path.{_≡_, refl, sym, _∙_}
 use native.Mathlib.Omega.{arith}
 use borrow.Author.Needs.{needs}
-use lib.Ieee.{Float, neg}
+use lib.Ieee.{neg}
 use Rattle.search.specs.Trial.{trialAt}
 use Rattle.search.specs.History.{outward, outwardStep, counted}
 use Rattle.search.specs.Search.{outwardAt}

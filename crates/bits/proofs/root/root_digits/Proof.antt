@@ -1,5 +1,5 @@
 -- The invariant: after i steps the first 2 i digits are the square of q and what it leaves.
-use Prim.Native.Nat.{_+_, _-_, _*_, _^_, _≤_, _<_}
+use Prim.Native.Nat.{_-_, _^_, _≤_, _<_}
 use native.Mathlib.Omega.{arith}
 use mathlib.Core.Logic.{⊎-elim}
 use Rattle.bits.proofs.Digits.{Prefix, start, set-one, set-zero, q-small, finished}
