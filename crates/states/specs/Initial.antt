@@ -1,0 +1,62 @@
+-- Document 01, "Initial figures and series (document 003, 3.4)", up to H, with refusals 3 and 4. The state and τ may be any doubles.
+use mathlib.Core.Bool.{Bool}
+use mathlib.Core.List.{List, [], _∷_}
+use Prim.Native.Nat.{ℕ}
+use lib.Ieee.{Float, binary64, eq, ofBits}
+use Rattle.bits.specs.Choice.{pick}
+use Rattle.bits.specs.Arithmetic.{_⊕_, _⊖_, _⊗_, _⊘_, n0, n2, isFinite, magnitude}
+use Rattle.bits.specs.Root.{rootOf}
+use Rattle.series.specs.declared.figures.Seconds.{Seconds}
+use Rattle.search.specs.declared.figures.Initial.{Initial}
+use Rattle.states.specs.Finite.{allFinite}
+use Rattle.states.specs.declared.figures.Vector.{Vector}
+use Rattle.states.specs.declared.figures.State.{State}
+use Rattle.states.specs.declared.figures.Begun.{Begun}
+use Rattle.states.specs.declared.figures.Begun.the-variants as begun
+
+-- "(x·x+y·y)+z·z", "σ0 = x·vx+y·vy+z·vz" and "v² = vx·vx+vy·vy+vz·vz" are the same formula: sums "group from the left".
+unfoldable pub dot : Vector → Vector → Float
+dot a b = (a .x ⊗ b .x ⊕ a .y ⊗ b .y) ⊕ a .z ⊗ b .z
+
+abbrev pub sumOf : State → Float
+sumOf s = dot (s .position) (s .position)
+
+-- "r0 = root of that sum"
+abbrev pub r0Of : State → Float
+r0Of s = rootOf (sumOf s)
+
+abbrev pub sigma0Of : State → Float
+sigma0Of s = dot (s .position) (s .velocity)
+
+abbrev pub v2Of : State → Float
+v2Of s = dot (s .velocity) (s .velocity)
+
+-- "(2·μ)/r0"
+abbrev pub quotientOf : Float → State → Float
+quotientOf mu s = (n2 ⊗ mu) ⊘ r0Of s
+
+-- "α = v² − (2·μ)/r0"
+abbrev pub alphaOf : Float → State → Float
+alphaOf mu s = v2Of s ⊖ quotientOf mu s
+
+abbrev pub initialOf : Float → State → Initial
+initialOf mu s = record { mu = mu; r0 = r0Of s; sigma0 = sigma0Of s; alpha = alphaOf mu s }
+
+-- Refusal 3: "(x·x+y·y)+z·z is zero". Refusal 4: "that sum, σ0, v², (2·μ)/r0, α or H below isn't finite"; of H, which is the interval's, see `stepRefusal`.
+unfoldable pub begunOf : Float → State → Begun
+begunOf mu s =
+    pick (eq (sumOf s) n0) (begun.Refused 3)
+    (pick (allFinite (sumOf s ∷ sigma0Of s ∷ v2Of s ∷ quotientOf mu s ∷ alphaOf mu s ∷ [])) (begun.Initial (initialOf mu s))
+    (begun.Refused 4))
+
+-- "2^−20"
+abbrev pub twoToMinus20 : Float
+twoToMinus20 = ofBits binary64 0x3eb0000000000000
+
+-- "H = (|τ|/r0)·2^−20"
+unfoldable pub firstStepOf : Initial → Seconds → Float
+firstStepOf i tau = (magnitude (tau .0) ⊘ i .r0) ⊗ twoToMinus20
+
+-- Refusal 4 by H.
+unfoldable pub stepRefusal : Float → ℕ
+stepRefusal h = pick (isFinite h) 0 4
