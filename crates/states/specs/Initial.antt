@@ -18,36 +18,21 @@ use Rattle.states.specs.declared.figures.Begun.the-variants as begun
 unfoldable pub dot : Vector → Vector → Float
 dot a b = (a .x ⊗ b .x ⊕ a .y ⊗ b .y) ⊕ a .z ⊗ b .z
 
-abbrev pub sumOf : State → Float
-sumOf s = dot (s .position) (s .position)
+-- "α = v² − (2·μ)/r0". Refusal 3: "(x·x+y·y)+z·z is zero". Refusal 4: "that sum, σ0, v², (2·μ)/r0, α or H below isn't finite"; H is the interval's, see
+-- `stepRefusal`.
+abbrev pub begunFrom : (mu sum r0 sigma0 v2 : Float) → Begun
+begunFrom mu sum r0 sigma0 v2 =
+    let quotient = (n2 ⊗ mu) ⊘ r0 in
+    let alpha = v2 ⊖ quotient in
+    pick (eq sum n0) (begun.Refused 3)
+    (pick (allFinite (sum ∷ sigma0 ∷ v2 ∷ quotient ∷ alpha ∷ [])) (begun.Initial (record { mu = mu; r0 = r0; sigma0 = sigma0; alpha = alpha }))
+    (begun.Refused 4))
 
 -- "r0 = root of that sum"
-abbrev pub r0Of : State → Float
-r0Of s = rootOf (sumOf s)
-
-abbrev pub sigma0Of : State → Float
-sigma0Of s = dot (s .position) (s .velocity)
-
-abbrev pub v2Of : State → Float
-v2Of s = dot (s .velocity) (s .velocity)
-
--- "(2·μ)/r0"
-abbrev pub quotientOf : Float → State → Float
-quotientOf mu s = (n2 ⊗ mu) ⊘ r0Of s
-
--- "α = v² − (2·μ)/r0"
-abbrev pub alphaOf : Float → State → Float
-alphaOf mu s = v2Of s ⊖ quotientOf mu s
-
-abbrev pub initialOf : Float → State → Initial
-initialOf mu s = record { mu = mu; r0 = r0Of s; sigma0 = sigma0Of s; alpha = alphaOf mu s }
-
--- Refusal 3: "(x·x+y·y)+z·z is zero". Refusal 4: "that sum, σ0, v², (2·μ)/r0, α or H below isn't finite"; of H, which is the interval's, see `stepRefusal`.
 unfoldable pub begunOf : Float → State → Begun
 begunOf mu s =
-    pick (eq (sumOf s) n0) (begun.Refused 3)
-    (pick (allFinite (sumOf s ∷ sigma0Of s ∷ v2Of s ∷ quotientOf mu s ∷ alphaOf mu s ∷ [])) (begun.Initial (initialOf mu s))
-    (begun.Refused 4))
+    let sum = dot (s .position) (s .position) in
+    begunFrom mu sum (rootOf sum) (dot (s .position) (s .velocity)) (dot (s .velocity) (s .velocity))
 
 -- "2^−20"
 abbrev pub twoToMinus20 : Float

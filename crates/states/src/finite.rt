@@ -16,10 +16,11 @@ pub fn all_finite(figures: &[f64]) -> bool
 {
     let mut k = 0usize;
     while k < figures.len() {
-        if !is_finite(figures[k]) {
+        if is_finite(figures[k]) {
+            k += 1;
+        } else {
             return false;
         }
-        k += 1;
     }
     true
 }

@@ -1,6 +1,9 @@
 // The 36 partials of an arc.
 ghost use mathlib.Core.Path.{_≡_};
-ghost use Rattle.states.specs.Partials.{uOf, matrixOf, plusOf, minusOf, componentOf, unitOf, entryOf, entriesOf, partialDivisorsOf, partialsRefusal, lentAfter};
+ghost use mathlib.Core.Bool.{true};
+ghost use lib.ListN.{length};
+ghost use Rattle.states.specs.Finite.{allFinite};
+ghost use Rattle.states.specs.Partials.{uOf, matrixOf, plusOf, minusOf, componentOf, unitOf, entryOf, entriesOf, partialDivisorsOf, wordsOf, partialsRefusal, lentAfter};
 use super::figures::Arc;
 use super::figures::Matrix;
 use super::figures::Vector;
@@ -159,6 +162,18 @@ fn entries(arc: Arc) -> [f64; 36]
     table
 }
 
+// Writes the words of the 36 partials to the run.
+fn write_words(table: [f64; 36], run: &mut [u64])
+    requires { ⌜ (length (now run) ≡ 36) × (allFinite table ≡ true) ⌝ }
+    ensures { λ _. ⌜ now (run .exit) ≡ wordsOf table ⌝ }
+{
+    let mut k = 0usize;
+    while k < 36 {
+        run[k] = f64::to_bits(table[k]);
+        k += 1;
+    }
+}
+
 // Writes the words of the 36 partials of an arc to the run, or none of them: refusal 1 where the run isn't exactly 36 long, 8 where a divisor of theirs is
 // zero or one of them isn't finite, else 0.
 pub fn write_partials(arc: Arc, run: &mut [u64]) -> u64
@@ -172,13 +187,9 @@ pub fn write_partials(arc: Arc, run: &mut [u64]) -> u64
         return 8;
     }
     let table = entries(arc);
-    if !all_finite(&table) {
-        return 8;
+    if all_finite(&table) {
+        write_words(table, run);
+        return 0;
     }
-    let mut k = 0usize;
-    while k < 36 {
-        run[k] = f64::to_bits(table[k]);
-        k += 1;
-    }
-    0
+    8
 }

@@ -27,10 +27,11 @@ pub fn first_not_finite(words: [u64; 8]) -> u64
 {
     let mut k = 0usize;
     while k < 8 {
-        if !is_finite_word(words[k]) {
+        if is_finite_word(words[k]) {
+            k += 1;
+        } else {
             return k as u64;
         }
-        k += 1;
     }
     8
 }

@@ -1,7 +1,7 @@
 -- What is left of the figures is finite as the whole is: those passed were.
-use mathlib.Core.Path.{_≡_, refl, sym, _∙_, ap}
-use mathlib.Core.Bool.{Bool, true, false, not, _&&_}
-use mathlib.Core.List.{List, [], _∷_}
+use mathlib.Core.Path.{_≡_, refl, sym, _∙_}
+use mathlib.Core.Bool.{Bool, true, false, _&&_}
+use mathlib.Core.List.{List}
 use Prim.Native.Nat.{ℕ, _+_, _-_, _<_, _≤_}
 use native.Mathlib.Omega.{arith}
 use native.Mathlib.Numerals.{add-one}
@@ -28,10 +28,6 @@ over : (t : List Float) (k : ℕ) → length t ≤ k → allFinite (drop k t) �
 unfolding allFinite
 over t k h = rw (drop-of-length-le t h)
 
-unnot : (b d : Bool) → not b ≡ d → not d ≡ b
-unnot true d e = ap not (sym e)
-unnot false d e = ap not (sym e)
-
 loop-holds : tie.Need-loop-holds Inv-loop μ-loop
 loop-holds c = refl
 
@@ -44,12 +40,6 @@ shared-slice-read-is-finite c = search needs
 is-finite-requires : tie.Need-is-finite-requires Inv-loop μ-loop
 is-finite-requires c κs = search needs
 
-returns : tie.Need-returns Inv-loop μ-loop
-returns c =
-    let in-loop = c .before .before .before in
-    let at = in-loop .before .loop in
-    turn _ (at .k) false (in-loop .loop-test .taken) (unnot _ true (c .if1 .taken) ∙ c .before .is-finite .ensures) ∙ at .inv
-
 add-k : tie.Need-add-k Inv-loop μ-loop
 add-k c = omega arith
 
@@ -60,7 +50,13 @@ loop-again : tie.Need-loop-again Inv-loop μ-loop
 loop-again c =
     let in-loop = c .before .before .before in
     let at = in-loop .before .loop in
-    turn _ (at .k) true (in-loop .loop-test .taken) (unnot _ false (c .if1 .left) ∙ c .before .is-finite .ensures) ∙ at .inv
+    turn _ (at .k) true (in-loop .loop-test .taken) (sym (c .if1 .taken) ∙ c .before .is-finite .ensures) ∙ at .inv
+
+returns : tie.Need-returns Inv-loop μ-loop
+returns c =
+    let in-loop = c .before .before .before in
+    let at = in-loop .before .loop in
+    turn _ (at .k) false (in-loop .loop-test .taken) (sym (c .if1 .left) ∙ c .before .is-finite .ensures) ∙ at .inv
 
 returns-2 : tie.Need-returns-2 Inv-loop μ-loop
 returns-2 c = sym (over _ (c .before .loop .k) (c .loop-test .left)) ∙ c .before .loop .inv
@@ -75,8 +71,8 @@ all-finite-spec =
     mul-is-finite
     shared-slice-read-is-finite
     is-finite-requires
-    returns
     add-k
     loop-less
     loop-again
+    returns
     returns-2)

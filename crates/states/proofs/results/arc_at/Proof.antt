@@ -1,38 +1,47 @@
-use native.Mathlib.Omega.{arith}
+-- Each part is what its call ensures.
+use mathlib.Core.Path.{_≡_}
 use borrow.Author.Needs.{needs}
+use lib.Ieee.{Float}
+use Rattle.series.specs.Series.{coefficientsOf, sumsOf}
+use Rattle.series.specs.declared.figures.Anomaly.{Anomaly}
+use Rattle.series.specs.declared.figures.Coefficients.{Coefficients}
+use Rattle.series.specs.declared.figures.Seconds.{Seconds}
+use Rattle.series.specs.declared.figures.Sums.{Sums}
+use Rattle.search.specs.Residual.{radiusOf}
+use Rattle.search.specs.declared.figures.Initial.{Initial}
+use Rattle.states.specs.Results.{factorsOf, endOf, arcOf}
+use Rattle.states.specs.declared.figures.Factors.{Factors}
+use Rattle.states.specs.declared.figures.State.{State}
 use Rattle.states.proofs.results.arc_at.Statement.{statement}
 use Rattle.states.proofs.results.arc_at.Tie as tie
-use Rattle.states.proofs.results.arc_at.Reads as reads
-use Rattle.states.proofs.results.arc_at.Lts as lts
-use Rattle.search.proofs.residual.radius.Reads as radius-reads
-use Rattle.series.proofs.coefficients.Reads as coefficients-reads
-use Rattle.series.proofs.sums.Reads as sums-reads
-use Rattle.states.proofs.results.end_of.Reads as end-of-reads
-use Rattle.states.proofs.results.factors_at.Reads as factors-at-reads
 
--- src/results.rt:52:9
+module _ (i : Initial) (tau : Seconds) (psi : Anomaly) (start : State) (c : Coefficients) (s : Sums) (r : Float) (k : Factors) (end : State) where
+  assembled : c ≡ coefficientsOf (i .alpha) psi → s ≡ sumsOf psi c → r ≡ radiusOf i (c .c0) (s .s1) (s .s2) → k ≡ factorsOf i tau s r → end ≡ endOf k start
+      → record { initial = i; tau = tau; psi = psi; c = c; s = s; r = r; factors = k; start = start; end = end } ≡ arcOf i tau psi start
+  unfolding arcOf
+  assembled ec es er ek ee = rw (ee, ek, er, es, ec)
+
 coefficients-requires : tie.Need-coefficients-requires
 coefficients-requires c κs = search needs
 
--- src/results.rt:53:9
 sums-requires : tie.Need-sums-requires
 sums-requires c κs = search needs
 
--- src/results.rt:54:9
 radius-requires : tie.Need-radius-requires
 radius-requires c κs = search needs
 
--- src/results.rt:55:9
 factors-at-requires : tie.Need-factors-at-requires
 factors-at-requires c κs = search needs
 
--- src/results.rt:56:9
 end-of-requires : tie.Need-end-of-requires
 end-of-requires c κs = search needs
 
--- src/results.rt:49:1
 returns : tie.Need-returns
-returns c = ?
+returns c =
+    let k = c .before in
+    let r = k .before in
+    let s = r .before in
+    assembled _ _ _ _ _ _ _ _ _ (s .before .coefficients .ensures) (s .sums .ensures) (r .radius .ensures) (k .factors-at .ensures) (c .end-of .ensures)
 
 pub arc-at-spec : {M : Type 1} → statement M
 arc-at-spec =

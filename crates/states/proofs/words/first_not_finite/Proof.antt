@@ -1,52 +1,68 @@
-use borrow.Author.Needs.{needs}
+-- All words passed were finite, so the first that is not stands in what is left.
+use mathlib.Core.Path.{_≡_, refl, sym, _∙_}
+use mathlib.Core.Bool.{Bool, true, false}
+use mathlib.Core.List.{List}
+use Prim.Native.Nat.{ℕ, _+_, _-_, _<_, _≤_}
 use native.Mathlib.Omega.{arith}
+use native.Mathlib.Numerals.{add-one}
+use borrow.Author.Needs.{needs}
+use lib.ListN.{length, getD, drop, drop-of-length-le}
+use lib.Seq.{drop-cons}
+use lib.Ieee.{binary64, ofBits}
+use Rattle.bits.specs.Arithmetic.{isFinite}
+use Rattle.bits.specs.Choice.{pick}
+use Rattle.states.specs.Words.{firstNotFinite}
 use Rattle.states.proofs.words.first_not_finite.Statement.{statement}
 use Rattle.states.proofs.words.first_not_finite.Tie as tie
-use Rattle.states.proofs.words.first_not_finite.Reads as reads
-use Rattle.states.proofs.words.first_not_finite.Lts as lts
-use Rattle.states.proofs.words.is_finite_word.Reads as is-finite-word-reads
 
 abbrev Inv-loop : tie.InvT-loop
-Inv-loop words k₀ k = ?
+Inv-loop words k₀ k = (k ≤ 8) × (k + firstNotFinite (drop k words) ≡ firstNotFinite words)
 
 abbrev μ-loop : tie.MeasureT-loop
-μ-loop words k₀ k = ?
+μ-loop words k₀ k = 8 - k
 
--- src/words.rt:29:5
+turn : (t : List ℕ) (k : ℕ) (b : Bool) → k < length t → b ≡ isFinite (ofBits binary64 (getD t k 0)) → firstNotFinite (drop k t) ≡ pick b (1 + firstNotFinite (drop (k + 1) t)) 0
+unfolding firstNotFinite
+turn t k b h e = rw (add-one, drop-cons t k 0, e)
+
+over : (t : List ℕ) (k : ℕ) → length t ≤ k → firstNotFinite (drop k t) ≡ 0
+unfolding firstNotFinite
+over t k h = rw (drop-of-length-le t h)
+
 loop-holds : tie.Need-loop-holds Inv-loop μ-loop
-loop-holds c = ?
+loop-holds c = (omega arith, omega arith)
 
--- src/words.rt:30:28
 mul-is-finite-word : tie.Need-mul-is-finite-word Inv-loop μ-loop
-mul-is-finite-word c = ?
+mul-is-finite-word c = search needs
 
--- src/words.rt:30:28
 array-read-is-finite-word : tie.Need-array-read-is-finite-word Inv-loop μ-loop
-array-read-is-finite-word c = ?
+array-read-is-finite-word c = search needs
 
--- src/words.rt:30:13
 is-finite-word-requires : tie.Need-is-finite-word-requires Inv-loop μ-loop
-is-finite-word-requires c κs = ?
+is-finite-word-requires c κs = search needs
 
--- src/words.rt:31:13
-returns : tie.Need-returns Inv-loop μ-loop
-returns c = ?
-
--- src/words.rt:33:9
 add-k : tie.Need-add-k Inv-loop μ-loop
-add-k c = ?
+add-k c = omega arith
 
--- src/words.rt:29:5
 loop-less : tie.Need-loop-less Inv-loop μ-loop
-loop-less c = ?
+loop-less c = omega arith
 
--- src/words.rt:29:5
 loop-again : tie.Need-loop-again Inv-loop μ-loop
-loop-again c = ?
+loop-again c =
+    let in-loop = c .before .before in
+    let at = in-loop .before .loop in
+    let e = turn (in-loop .before .before .args .t1) (at .k) true (omega arith) (sym (c .if1 .taken) ∙ c .before .is-finite-word .ensures) in
+    (omega arith, omega (arith, e))
 
--- src/words.rt:25:1
+returns : tie.Need-returns Inv-loop μ-loop
+returns c =
+    let in-loop = c .before .before in
+    let at = in-loop .before .loop in
+    let e = turn (in-loop .before .before .args .t1) (at .k) false (omega arith) (sym (c .if1 .left) ∙ c .before .is-finite-word .ensures) in
+    omega (arith, e)
+
 returns-2 : tie.Need-returns-2 Inv-loop μ-loop
-returns-2 c = ?
+returns-2 c = omega (arith, over (c .before .before .args .t1) (c .before .loop .k) (omega arith))
 
 pub first-not-finite-spec : {M : Type 1} → statement M
 first-not-finite-spec =
@@ -58,8 +74,8 @@ first-not-finite-spec =
     mul-is-finite-word
     array-read-is-finite-word
     is-finite-word-requires
-    returns
     add-k
     loop-less
     loop-again
+    returns
     returns-2)

@@ -1,0 +1,2 @@
+-- Laws of this layer; FiniteLaws.antt serves the proofs.
+pub mod FiniteLaws
