@@ -1,2 +1,2 @@
--- Laws of this layer; FiniteLaws.antt serves the proofs.
-pub mod FiniteLaws
+-- The laws of this layer.
+pub mod WordLaws

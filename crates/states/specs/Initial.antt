@@ -8,9 +8,9 @@ use Rattle.bits.specs.Arithmetic.{_⊕_, _⊖_, _⊗_, _⊘_, n0, n2, isFinite,
 use Rattle.bits.specs.Root.{rootOf}
 use Rattle.series.specs.declared.figures.Seconds.{Seconds}
 use Rattle.search.specs.declared.figures.Initial.{Initial}
-use Rattle.states.specs.Finite.{allFinite}
-use Rattle.states.specs.declared.figures.Vector.{Vector}
-use Rattle.states.specs.declared.figures.State.{State}
+use Rattle.arcs.specs.Finite.{allFinite}
+use Rattle.arcs.specs.declared.figures.Vector.{Vector}
+use Rattle.arcs.specs.declared.figures.State.{State}
 use Rattle.states.specs.declared.figures.Begun.{Begun}
 use Rattle.states.specs.declared.figures.Begun.the-variants as begun
 

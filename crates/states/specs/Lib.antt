@@ -1,6 +1,3 @@
--- Layer 4: states and partials. Read the files in this order.
-pub mod Finite
+-- Layer 4: from the eight words of an orbit to its initial figures. Read the files in this order.
 pub mod Words
 pub mod Initial
-pub mod Results
-pub mod Partials

@@ -7,7 +7,7 @@ use lib.Ieee.{Float, binary64, ofBits}
 use lib.ListN.{getD}
 use Rattle.bits.specs.Choice.{pick}
 use Rattle.bits.specs.Arithmetic.{isFinite}
-use Rattle.states.specs.declared.figures.Vector.{Vector}
+use Rattle.arcs.specs.declared.figures.Vector.{Vector}
 use Rattle.states.specs.declared.figures.Orbit.{Orbit}
 use Rattle.states.specs.declared.figures.Read.{Read}
 use Rattle.states.specs.declared.figures.Read.the-variants as read

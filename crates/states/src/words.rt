@@ -5,8 +5,8 @@ ghost use Rattle.bits.specs.Arithmetic.{isFinite};
 ghost use Rattle.states.specs.Words.{firstNotFinite, readOf};
 use super::figures::Orbit;
 use super::figures::Read;
-use super::figures::State;
-use super::figures::Vector;
+use arcs::figures::State;
+use arcs::figures::Vector;
 use bits::words::Kind;
 use series::Seconds;
 

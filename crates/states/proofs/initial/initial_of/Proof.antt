@@ -7,9 +7,9 @@ use lib.Ieee.{Float, eq}
 use Rattle.bits.specs.Choice.{pick}
 use Rattle.bits.specs.Arithmetic.{_⊖_, _⊗_, _⊘_, n0, n2}
 use Rattle.bits.specs.Root.{rootOf}
-use Rattle.states.specs.Finite.{allFinite}
+use Rattle.arcs.specs.Finite.{allFinite}
 use Rattle.states.specs.Initial.{dot, begunFrom, begunOf}
-use Rattle.states.specs.declared.figures.State.{State}
+use Rattle.arcs.specs.declared.figures.State.{State}
 use Rattle.states.specs.declared.figures.Begun.{Begun}
 use Rattle.states.specs.declared.figures.Begun.the-variants.{Initial, Refused}
 use Rattle.states.proofs.initial.initial_of.Statement.{statement}

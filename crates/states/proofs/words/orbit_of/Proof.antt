@@ -11,7 +11,7 @@ use lib.Ieee.{binary64, nanBits}
 use lib.ListN.{length, getD}
 use Rattle.states.specs.Words.{firstNotFinite, orbit, readOf}
 use Rattle.states.specs.declared.figures.Read.the-variants as read
-use Rattle.states.proofs.FiniteLaws.{finite-word, each-word-finite}
+use Rattle.states.proofs.WordLaws.{finite-word, each-word-finite}
 use Rattle.states.proofs.words.orbit_of.Statement.{statement}
 use Rattle.states.proofs.words.orbit_of.Tie as tie
 
