@@ -1,6 +1,7 @@
 -- Document 01, "Results and partials", its first paragraph, with refusals 7 and 8.
 use mathlib.Core.Bool.{Bool}
 use mathlib.Core.List.{List, [], _∷_}
+use Prim.Native.Nat.{ℕ}
 use lib.Ieee.{Float, lt, neg}
 use Rattle.bits.specs.Choice.{pick}
 use Rattle.bits.specs.Arithmetic.{_⊕_, _⊖_, _⊗_, _⊘_, n0, n1}
@@ -96,3 +97,8 @@ endedOf a =
     (pick (allFinite (figuresOf (resultsOf a))) (ended.Results (resultsOf a))
     (ended.Refused 8)))
     (ended.Refused 7)
+
+-- The document's number, or 0.
+abbrev pub endedRefusal : Ended → ℕ
+endedRefusal (ended.Results r) = 0
+endedRefusal (ended.Refused n) = n

@@ -2,3 +2,4 @@
 pub mod Matrix
 pub mod Entries
 pub mod Partials
+pub mod Cases

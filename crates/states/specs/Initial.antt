@@ -34,6 +34,11 @@ begunOf mu s =
     let sum = dot (s .position) (s .position) in
     begunFrom mu sum (rootOf sum) (dot (s .position) (s .velocity)) (dot (s .velocity) (s .velocity))
 
+-- The document's number, or 0.
+abbrev pub begunRefusal : Begun → ℕ
+begunRefusal (begun.Initial i) = 0
+begunRefusal (begun.Refused n) = n
+
 -- "2^−20"
 abbrev pub twoToMinus20 : Float
 twoToMinus20 = ofBits binary64 0x3eb0000000000000

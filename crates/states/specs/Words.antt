@@ -30,3 +30,8 @@ orbit words = record { mu = number words 0; state = record { position = vector w
 -- Refusal 2: "any of the eight is NaN or infinite". Then there is no orbit, but the number of the first such word.
 unfoldable pub readOf : List ℕ → Read
 readOf words = pick (eqb (firstNotFinite words) 8) (read.Orbit (orbit words)) (read.NotFinite (firstNotFinite words))
+
+-- The document's number, or 0.
+abbrev pub readRefusal : Read → ℕ
+readRefusal (read.Orbit o) = 0
+readRefusal (read.NotFinite k) = 2
