@@ -1,0 +1,2 @@
+-- The laws of this layer.
+pub mod FiniteLaws
