@@ -2,8 +2,12 @@
 // field; the names carry the interface's edition, so a header of another edition does not link.
 ghost use mathlib.Core.Path.{_≡_};
 ghost use lib.ListN.{length};
-ghost use Rattle.kelubashi.specs.Face.{returned, written};
+ghost use Rattle.kelubashi.specs.Face.{returned, written, answerWords, orbitWords, lentBehind};
+use arcs::figures::Results;
+use bits::words::word_of;
+use states::figures::Answer;
 ghost use Rattle.bits.specs.Root.{rootRefusalOf, rootWordOf};
+ghost use Rattle.states.specs.Call.{propagateOf, partialsOf, lentOf};
 ghost use mathlib.Core.List.{[], _∷_};
 
 // Writes an answer's words to a run of their length.
@@ -18,6 +22,30 @@ fn put(words: &[u64], run: &mut [u64])
     }
 }
 
+// The fifteen words of an answer: refusal, points, position, velocity, end acceleration, start acceleration, psi.
+fn answer_words(answer: Answer) -> [u64; 15]
+    ensures { λ r. ⌜ r ≡ answerWords answer ⌝ }
+{
+    let figures = answer.results;
+    [
+        answer.refusal,
+        answer.points,
+        word_of(figures.end.position.x),
+        word_of(figures.end.position.y),
+        word_of(figures.end.position.z),
+        word_of(figures.end.velocity.x),
+        word_of(figures.end.velocity.y),
+        word_of(figures.end.velocity.z),
+        word_of(figures.end_acceleration.x),
+        word_of(figures.end_acceleration.y),
+        word_of(figures.end_acceleration.z),
+        word_of(figures.start_acceleration.x),
+        word_of(figures.start_acceleration.y),
+        word_of(figures.start_acceleration.z),
+        word_of(figures.psi.0),
+    ]
+}
+
 // The square root of the double of a word, to an answer run of one word.
 #[no_mangle]
 pub extern "C" fn kelubashi1_root(word: u64, answer: &mut [u64]) -> u64
@@ -29,4 +57,53 @@ pub extern "C" fn kelubashi1_root(word: u64, answer: &mut [u64]) -> u64
     let r = bits::root::root_of(word);
     answer[0] = r.word;
     r.refusal
+}
+
+// Position, velocity and accelerations of eight words, to an answer run of fifteen words.
+#[no_mangle]
+pub extern "C" fn kelubashi1_propagate(
+    mu: u64,
+    x: u64,
+    y: u64,
+    z: u64,
+    vx: u64,
+    vy: u64,
+    vz: u64,
+    tau: u64,
+    answer: &mut [u64],
+) -> u64
+    ensures { λ r. ⌜ (r ≡ returned 15 (now (answer .entry)) (propagateOf (orbitWords mu x y z vx vy vz tau) .refusal)) × (now (answer .exit) ≡ written 15 (now (answer .entry)) (answerWords (propagateOf (orbitWords mu x y z vx vy vz tau)))) ⌝ }
+{
+    if answer.len() != 15 {
+        return 60;
+    }
+    let a = states::call::propagate([mu, x, y, z, vx, vy, vz, tau]);
+    let words = answer_words(a);
+    put(&words, answer);
+    a.refusal
+}
+
+// The same, with the 36 partials to a lent run.
+#[no_mangle]
+pub extern "C" fn kelubashi1_partials(
+    mu: u64,
+    x: u64,
+    y: u64,
+    z: u64,
+    vx: u64,
+    vy: u64,
+    vz: u64,
+    tau: u64,
+    answer: &mut [u64],
+    run: &mut [u64],
+) -> u64
+    ensures { λ r. ⌜ (r ≡ returned 15 (now (answer .entry)) (partialsOf (orbitWords mu x y z vx vy vz tau) (now (run .entry)) .refusal)) × (now (answer .exit) ≡ written 15 (now (answer .entry)) (answerWords (partialsOf (orbitWords mu x y z vx vy vz tau) (now (run .entry))))) × (now (run .exit) ≡ lentBehind 15 (now (answer .entry)) (now (run .entry)) (lentOf (orbitWords mu x y z vx vy vz tau) (now (run .entry)))) ⌝ }
+{
+    if answer.len() != 15 {
+        return 60;
+    }
+    let a = states::call::propagate_with_partials([mu, x, y, z, vx, vy, vz, tau], run);
+    let words = answer_words(a);
+    put(&words, answer);
+    a.refusal
 }

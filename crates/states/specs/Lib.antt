@@ -1,4 +1,5 @@
--- Layer 4: from the eight words of an orbit to its initial figures. Read the files in this order.
+-- Layer 4: from the eight words of an orbit to its answer. Read the files in this order.
 pub mod Words
 pub mod Initial
+pub mod Call
 pub mod Cases

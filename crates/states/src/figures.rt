@@ -1,4 +1,6 @@
-// What comes in, and what is known of it before the search.
+// What comes in, what is known of it before and after the search, and what goes out.
+use arcs::figures::Arc;
+use arcs::figures::Results;
 use arcs::figures::State;
 use search::figures::Initial;
 use series::Seconds;
@@ -20,4 +22,17 @@ pub enum Read {
 pub enum Begun {
     Initial(Initial),
     Refused(u64),
+}
+
+// Where a search leads: the arc of the found anomaly, with the points used; or a refusal's number with the points used so far.
+pub enum Reached {
+    End(Arc, u64),
+    Refused(u64, u64),
+}
+
+// An answer: a refusal's number or 0, the trial points used, and the thirteen figures, all +0 where it is refused.
+pub struct Answer {
+    pub refusal: u64,
+    pub points: u64,
+    pub results: Results,
 }

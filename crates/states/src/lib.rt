@@ -1,4 +1,5 @@
-// Layer 4, from the eight words of an orbit to its initial figures (document 01, "Initial figures", and refusals 2 to 4).
+// Layer 4: the propagator's calls, from eight words to an answer (document 01, "Refusals in order of checking").
+pub mod call;
 pub mod figures;
 pub mod initial;
 pub mod words;

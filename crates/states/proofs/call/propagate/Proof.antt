@@ -1,0 +1,45 @@
+-- Each arm is the definition at where the search led.
+use mathlib.Core.Path.{sym, _∙_, ap}
+use borrow.Author.Needs.{needs}
+use Rattle.states.specs.Call.{propagateOf, answerBy, endedAnswer}
+use Rattle.states.proofs.call.propagate.Statement.{statement}
+use Rattle.states.proofs.call.propagate.Tie as tie
+
+reach-requires : tie.Need-reach-requires
+reach-requires c κs = search needs
+
+enum-known-arc : tie.Need-enum-known-arc
+enum-known-arc c = search needs
+
+ended-requires : tie.Need-ended-requires
+ended-requires c κs = search needs
+
+answer-of-requires : tie.Need-answer-of-requires
+answer-of-requires c κs = search needs
+
+enum-known-refusal : tie.Need-enum-known-refusal
+enum-known-refusal c = search needs
+
+refused-with-requires : tie.Need-refused-with-requires
+refused-with-requires c κs = search needs
+
+returns : tie.Need-returns
+unfolding propagateOf
+returns c = c .answer-of .ensures ∙ ap (endedAnswer _) (c .before .ended .ensures) ∙ ap answerBy (sym (c .before .before .before .arc .given .1) ∙ c .before .before .before .before .before .reach .ensures)
+
+returns-2 : tie.Need-returns-2
+unfolding propagateOf
+returns-2 c = c .refused-with .ensures ∙ ap answerBy (sym (c .before .before .refusal .given .1) ∙ c .before .before .before .before .reach .ensures)
+
+pub propagate-spec : {M : Type 1} → statement M
+propagate-spec =
+    tie.close
+    (tie.spec
+    reach-requires
+    enum-known-arc
+    ended-requires
+    answer-of-requires
+    enum-known-refusal
+    refused-with-requires
+    returns
+    returns-2)

@@ -1,0 +1,31 @@
+-- Each arm is the definition at what the words were read as.
+use mathlib.Core.Path.{sym, _∙_, ap}
+use borrow.Author.Needs.{needs}
+use Rattle.states.specs.Call.{reachedOf, reachedRead}
+use Rattle.states.proofs.call.reach.Statement.{statement}
+use Rattle.states.proofs.call.reach.Tie as tie
+
+orbit-of-requires : tie.Need-orbit-of-requires
+orbit-of-requires c κs = search needs
+
+enum-known-orbit : tie.Need-enum-known-orbit
+enum-known-orbit c = search needs
+
+reach-orbit-requires : tie.Need-reach-orbit-requires
+reach-orbit-requires c κs = search needs
+
+enum-told : tie.Need-enum-told
+enum-told c = search needs
+
+returns : tie.Need-returns
+unfolding reachedOf
+returns c = c .reach-orbit .ensures ∙ ap reachedRead (sym (c .before .before .orbit .given .1) ∙ c .before .before .before .before .orbit-of .ensures)
+
+returns-2 : tie.Need-returns-2
+unfolding reachedOf
+returns-2 c = ap reachedRead (sym (c .enum-told .given .1) ∙ c .before .before .orbit-of .ensures)
+
+pub reach-spec : {M : Type 1} → statement M
+reach-spec =
+    tie.close
+    (tie.spec orbit-of-requires enum-known-orbit reach-orbit-requires enum-told returns returns-2)

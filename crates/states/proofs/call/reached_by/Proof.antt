@@ -1,0 +1,41 @@
+-- Each arm is the definition at the end of the search that the match showed.
+use borrow.Author.Needs.{needs}
+use Rattle.states.specs.Call.{reachedBy}
+use Rattle.states.proofs.call.reached_by.Statement.{statement}
+use Rattle.states.proofs.call.reached_by.Tie as tie
+
+enum-known-found : tie.Need-enum-known-found
+enum-known-found c = search needs
+
+arc-at-requires : tie.Need-arc-at-requires
+arc-at-requires c κs = search needs
+
+enum-known-found-2 : tie.Need-enum-known-found-2
+enum-known-found-2 c = search needs
+
+enum-known-found-3 : tie.Need-enum-known-found-3
+enum-known-found-3 c = search needs
+
+returns : tie.Need-returns
+unfolding reachedBy
+returns c = simp (c .before .before .found .given .1, c .arc-at .ensures)
+
+returns-2 : tie.Need-returns-2
+unfolding reachedBy
+returns-2 c = simp (c .before .found2 .given .1)
+
+returns-3 : tie.Need-returns-3
+unfolding reachedBy
+returns-3 c = simp (c .before .found3 .given .1)
+
+pub reached-by-spec : {M : Type 1} → statement M
+reached-by-spec =
+    tie.close
+    (tie.spec
+    enum-known-found
+    arc-at-requires
+    enum-known-found-2
+    enum-known-found-3
+    returns
+    returns-2
+    returns-3)

@@ -1,0 +1,166 @@
+// The two calls of the propagator: refusals in order of checking, and the answer.
+ghost use mathlib.Core.Path.{_≡_};
+ghost use Rattle.arcs.specs.Results.{endedOf};
+ghost use Rattle.partials.specs.Partials.{lentAfter};
+ghost use Rattle.states.specs.Call.{refused, answered, reachedBy, reachedFrom, reachedOrbit, reachedOf, endedAnswer, propagateOf, withPartials, endedWith, lentEnded, partialsOf, lentOf};
+use super::figures::Answer;
+use super::figures::Begun;
+use super::figures::Orbit;
+use super::figures::Reached;
+use super::figures::Read;
+use super::initial;
+use super::words;
+use arcs::figures::Arc;
+use arcs::figures::Ended;
+use arcs::figures::Results;
+use arcs::figures::State;
+use arcs::figures::Vector;
+use arcs::results::arc_at;
+use arcs::results::ended;
+use search::figures::Initial;
+use series::Anomaly;
+use series::Seconds;
+
+// A refusal: its number, the points used so far, and +0 for every other figure.
+fn refused_with(refusal: u64, points: u64) -> Answer
+    ensures { λ r. ⌜ r ≡ refused refusal points ⌝ }
+{
+    let nothing = Vector {
+        x: 0.0,
+        y: 0.0,
+        z: 0.0,
+    };
+    let nowhere = State {
+        position: nothing,
+        velocity: nothing,
+    };
+    let results = Results {
+        end: nowhere,
+        end_acceleration: nothing,
+        start_acceleration: nothing,
+        psi: Anomaly(0.0),
+    };
+    Answer {
+        refusal,
+        points,
+        results,
+    }
+}
+
+// An answer that is not refused.
+fn answered_with(points: u64, results: Results) -> Answer
+    ensures { λ r. ⌜ r ≡ answered points results ⌝ }
+{
+    Answer {
+        refusal: 0,
+        points,
+        results,
+    }
+}
+
+// What a search of the interval reaches from a state: refusals 5 and 6, or the arc of the found anomaly.
+fn reached_by(
+    initial: Initial,
+    state: State,
+    tau: Seconds,
+    found: search::figures::Answer,
+) -> Reached
+    ensures { λ r. ⌜ r ≡ reachedBy initial state tau found ⌝ }
+{
+    match found {
+        search::figures::Answer::Found { psi, points } => {
+            Reached::End(arc_at(initial, tau, psi, state), points)
+        }
+        search::figures::Answer::AllShort { points } => Reached::Refused(5, points),
+        search::figures::Answer::Unreadable { points } => Reached::Refused(6, points),
+    }
+}
+
+// From the initial figures of a state: refusal 4 by H, then the search. One batch of requests of one state can share the initial figures.
+pub fn reach_from(initial: Initial, state: State, tau: Seconds) -> Reached
+    ensures { λ r. ⌜ r ≡ reachedFrom initial state tau ⌝ }
+{
+    let h = initial::first_step(initial, tau);
+    if bits::words::is_finite(h) {
+        return reached_by(initial, state, tau, search::search(initial, tau, h));
+    }
+    Reached::Refused(4, 0)
+}
+
+// From an orbit: refusals 3 and 4 by its state, then the interval.
+fn reach_orbit(orbit: Orbit) -> Reached
+    ensures { λ r. ⌜ r ≡ reachedOrbit orbit ⌝ }
+{
+    let state = orbit.state;
+    match initial::initial_of(orbit.mu, state) {
+        Begun::Initial(figures) => {
+            let tau = orbit.tau;
+            reach_from(figures, state, tau)
+        }
+        Begun::Refused(refusal) => Reached::Refused(refusal, 0),
+    }
+}
+
+// From the eight words: refusal 2, then the orbit.
+pub fn reach(words: [u64; 8]) -> Reached
+    ensures { λ r. ⌜ r ≡ reachedOf words ⌝ }
+{
+    match words::orbit_of(words) {
+        Read::Orbit(orbit) => reach_orbit(orbit),
+        Read::NotFinite(_) => Reached::Refused(2, 0),
+    }
+}
+
+// Refusals 7 and 8, or the results.
+fn answer_of(points: u64, end: Ended) -> Answer
+    ensures { λ r. ⌜ r ≡ endedAnswer points end ⌝ }
+{
+    match end {
+        Ended::Results(results) => answered_with(points, results),
+        Ended::Refused(refusal) => refused_with(refusal, points),
+    }
+}
+
+// Position, velocity and accelerations of eight words.
+pub fn propagate(words: [u64; 8]) -> Answer
+    ensures { λ r. ⌜ r ≡ propagateOf words ⌝ }
+{
+    match reach(words) {
+        Reached::End(arc, points) => answer_of(points, ended(arc)),
+        Reached::Refused(refusal, points) => refused_with(refusal, points),
+    }
+}
+
+// The partials of an arc whose results are not refused, to the lent run: all of them, or refusal 8 and none.
+fn with_partials(arc: Arc, points: u64, results: Results, run: &mut [u64]) -> Answer
+    ensures { λ r. ⌜ (r ≡ withPartials arc points results (now (run .entry))) × (now (run .exit) ≡ lentAfter arc (now (run .entry))) ⌝ }
+{
+    let refusal = partials::write_partials(arc, run);
+    if refusal != 0 {
+        return refused_with(refusal, points);
+    }
+    answered_with(points, results)
+}
+
+// An arc's results with its partials: refusals 7 and 8, or both.
+fn end_with_partials(arc: Arc, points: u64, run: &mut [u64]) -> Answer
+    ensures { λ r. ⌜ (r ≡ endedWith arc points (endedOf arc) (now (run .entry))) × (now (run .exit) ≡ lentEnded arc (endedOf arc) (now (run .entry))) ⌝ }
+{
+    match ended(arc) {
+        Ended::Results(results) => with_partials(arc, points, results, run),
+        Ended::Refused(refusal) => refused_with(refusal, points),
+    }
+}
+
+// The same of eight words, with the 36 partials to the lent run: refusal 1, then as without them, and 8 by the partials too.
+pub fn propagate_with_partials(words: [u64; 8], run: &mut [u64]) -> Answer
+    ensures { λ r. ⌜ (r ≡ partialsOf words (now (run .entry))) × (now (run .exit) ≡ lentOf words (now (run .entry))) ⌝ }
+{
+    if run.len() != 36 {
+        return refused_with(1, 0);
+    }
+    match reach(words) {
+        Reached::End(arc, points) => end_with_partials(arc, points, run),
+        Reached::Refused(refusal, points) => refused_with(refusal, points),
+    }
+}
