@@ -1,3 +1,4 @@
 -- The laws of the rule's history, for any trial function and any proposal, and then those of document 01's search.
 pub mod Counts
 pub mod Turns
+pub mod Rounds

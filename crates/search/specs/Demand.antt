@@ -1,11 +1,12 @@
 -- What the search promises (document 01, demand 3 and "What holds the contracts honest"), for any trial function and any proposal.
 use Prim.Native.Nat.{ℕ, _+_, _*_, _^_, _<_, _≤_}
 use mathlib.Core.Path.{_≡_}
+use mathlib.Core.List.{[]}
 use lib.Ieee.{Float}
 use Rattle.search.specs.declared.figures.Sort.{Sort}
 use Rattle.search.specs.declared.figures.Sort.the-variants.{Short, Past, Exact, Unreadable}
 use Rattle.search.specs.declared.trial.Trial.{Trial}
-use Rattle.search.specs.History.{Trials, Proposal, End, between, exact, unreadable, allShort, endOf, history}
+use Rattle.search.specs.History.{Trials, Proposal, End, between, exact, unreadable, allShort, History, endOf, onward, outward, inward, history}
 
 abbrev pub IsShort : Sort → Type 0
 IsShort (Short r) = Unit {0}
@@ -46,3 +47,9 @@ Finds =
     (ev : Trials) (pr : Proposal) (first k : ℕ) (error : Float) →
     Sorts ev error → FirstNotShort ev first 41 k → ReadableUpTo ev (outPoint first k) →
     IsFound ev (endOf (history ev pr first error))
+
+-- ---- The sharper bounds that the places give.
+
+-- The history with another number of rounds.
+abbrev pub historyIn : (rounds : ℕ) → Trials → Proposal → (first : ℕ) (error : Float) → History
+historyIn rounds ev pr first error = onward [] (outward ev 41 0 error first) (inward ev pr rounds 0)
