@@ -2,3 +2,4 @@
 pub mod Counts
 pub mod Turns
 pub mod Rounds
+pub mod Reach
