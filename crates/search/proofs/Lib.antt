@@ -3,3 +3,4 @@ pub mod Counts
 pub mod Turns
 pub mod Rounds
 pub mod Reach
+pub mod Refusals

@@ -41,11 +41,18 @@ moved-reached ev top s p h lo hi = go (ev p .sort) refl
     go Unreadable e = (p, e, omega arith)
 
 -- ---- Outward.
-outPoint-zero : (place : ℕ) → outPoint place 0 ≡ place
+pub outPoint-zero : (place : ℕ) → outPoint place 0 ≡ place
 outPoint-zero place = omega arith
 
-outPoint-suc : (place k : ℕ) → outPoint place (suc k) ≡ outPoint (place + 2 ^ 52) k
+pub outPoint-suc : (place k : ℕ) → outPoint place (suc k) ≡ outPoint (place + 2 ^ 52) k
 outPoint-suc place k = omega arith
+
+-- A short outward point goes on from its own error.
+pub on-short : (v : Sort) (short : ℕ) (error : Float) (place : ℕ) (t : Trial) (next : Float → History) → IsShort v → (r : Float) × (v ≡ Short r) × (goingOn (outwardBy v short error place t) next ≡ next r)
+on-short (Short r) short error place t next h = (r, refl, refl)
+on-short (Past r) short error place t next h = absurd h
+on-short Exact short error place t next h = absurd h
+on-short Unreadable short error place t next h = absurd h
 
 module _ (ev : Trials) where
   -- After a short point, at or before it, an outward point that isn't short is a past one above it, or ends the search.
@@ -65,13 +72,6 @@ module _ (ev : Trials) where
       go (Past r) e = record { short-is = hs; past-is = e; order = below; inside = le-refl place }
       go Exact e = (e, omega arith)
       go Unreadable e = (place, e, omega arith)
-
-  -- A short outward point goes on from its own error.
-  on-short : (v : Sort) (short : ℕ) (error : Float) (place : ℕ) (t : Trial) (next : Float → History) → IsShort v → (r : Float) × (v ≡ Short r) × (goingOn (outwardBy v short error place t) next ≡ next r)
-  on-short (Short r) short error place t next h = (r, refl, refl)
-  on-short (Past r) short error place t next h = absurd h
-  on-short Exact short error place t next h = absurd h
-  on-short Unreadable short error place t next h = absurd h
 
   outward-reached : (k n short : ℕ) (error : Float) (place : ℕ) → ev short .sort ≡ Short error → short ≤ place → FirstNotShort ev place n k
       → Reached ev (outPoint place k) (endOf (outward ev n short error place))

@@ -1,12 +1,13 @@
 -- What the search promises (document 01, demand 3 and "What holds the contracts honest"), for any trial function and any proposal.
 use Prim.Native.Nat.{ℕ, _+_, _*_, _^_, _<_, _≤_}
 use mathlib.Core.Path.{_≡_}
-use mathlib.Core.List.{[]}
+use mathlib.Core.List.{List, [], _∷_, _++_}
+use mathlib.Core.Logic.{_⊎_}
 use lib.Ieee.{Float}
 use Rattle.search.specs.declared.figures.Sort.{Sort}
 use Rattle.search.specs.declared.figures.Sort.the-variants.{Short, Past, Exact, Unreadable}
 use Rattle.search.specs.declared.trial.Trial.{Trial}
-use Rattle.search.specs.History.{Trials, Proposal, End, between, exact, unreadable, allShort, History, endOf, onward, outward, inward, history}
+use Rattle.search.specs.History.{Point, Trials, Proposal, End, between, exact, unreadable, allShort, History, endOf, onward, outward, inward, history}
 
 abbrev pub IsShort : Sort → Type 0
 IsShort (Short r) = Unit {0}
@@ -53,3 +54,27 @@ Finds =
 -- The history with another number of rounds.
 abbrev pub historyIn : (rounds : ℕ) → Trials → Proposal → (first : ℕ) (error : Float) → History
 historyIn rounds ev pr first error = onward [] (outward ev 41 0 error first) (inward ev pr rounds 0)
+
+-- ---- The two refusals.
+
+-- All 41 outward points are short.
+abbrev pub AllOutwardShort : Trials → (first : ℕ) → Type 0
+AllOutwardShort ev first = (i : ℕ) → i < 41 → IsShort (ev (outPoint first i) .sort)
+
+-- Each point's figures are those of its place.
+abbrev pub TriedBy : Trials → List Point → Type 0
+TriedBy ev [] = Unit {0}
+TriedBy ev (p ∷ ps) = (p .trial ≡ ev (p .place)) × TriedBy ev ps
+
+-- Some point of these is unreadable.
+abbrev pub SomeUnreadable : List Point → Type 0
+SomeUnreadable [] = ⊥
+SomeUnreadable (p ∷ ps) = (p .trial .sort ≡ Unreadable) ⊎ SomeUnreadable ps
+
+-- The last point of these is unreadable, and no other.
+pub record LastUnreadable (ps : List Point) : Type 0 where
+  pub before : List Point
+  pub last : Point
+  pub all : ps ≡ before ++ (last ∷ [])
+  pub last-is : last .trial .sort ≡ Unreadable
+  pub readable-before : SomeUnreadable before → ⊥
