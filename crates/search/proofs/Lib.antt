@@ -4,3 +4,4 @@ pub mod Turns
 pub mod Rounds
 pub mod Reach
 pub mod Refusals
+pub mod Instance

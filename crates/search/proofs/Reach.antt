@@ -112,16 +112,17 @@ module _ (ev : Trials) (pr : Proposal) (first : ℕ) (error : Float) (sorts : So
       (narrow top (endOf (outward ev 41 0 error first)) (outward-reached ev k 41 0 error first (sorts .zero-short) (omega arith) f))
       (λ tried s h w. inward-within (Reached ev top) ev (moved-reached ev top) pr 63 0 tried s 0 h w)
 
--- Neighbours and exact points are anomalies.
-found : (ev : Trials) (top : ℕ) (e : End) → Within (Reached ev top) 1 e → ReadableUpTo ev top → IsFound ev e
-found ev top (between s) x readable =
+-- Neighbours and exact points are anomalies; else a point up to that one is unreadable.
+pub found : (ev : Trials) (top : ℕ) (e : End) → Within (Reached ev top) 1 e → IsFound ev e ⊎ ((e ≡ unreadable) × (ReadableUpTo ev top → ⊥))
+found ev top (between s) x =
     let h = x .0 in
     let next : s .past ≡ s .short + 1 = omega (arith, h .order, x .1) in
-    (h .short-is, rw next at (h .past-is), next)
-found ev top (exact p) x readable = x .0
-found ev top unreadable x readable = readable (x .0) (x .2) (x .1)
-found ev top allShort x readable = x
+    inl (h .short-is, rw next at (h .past-is), next)
+found ev top (exact p) x = inl (x .0)
+found ev top unreadable x = inr (refl, λ r. r (x .0) (x .2) (x .1))
+found ev top allShort x = absurd x
 
 -- Demand 3.
 pub finds : Finds
-finds ev pr first k error sorts f readable = found ev (outPoint first k) (endOf (history ev pr first error)) (history-reached ev pr first error sorts k f) readable
+finds ev pr first k error sorts f readable =
+    ⊎-elim (λ x. x) (λ u. absurd (u .1 readable)) (found ev (outPoint first k) (endOf (history ev pr first error)) (history-reached ev pr first error sorts k f))

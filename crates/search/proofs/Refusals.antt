@@ -5,6 +5,7 @@ use mathlib.Core.Path.{_≡_, refl, ap, sym, _∙_, subst}
 use mathlib.Core.Bool.{Bool, true, false}
 use mathlib.Core.List.{List, [], _∷_, _++_}
 use mathlib.Core.Logic.{_⊎_, inl, inr, ⊎-elim, _↔_}
+use native.Mathlib.Decide.{decLt}
 use native.Mathlib.Omega.{arith}
 use lib.Ieee.{Float}
 use Rattle.bits.specs.Choice.{pick}
@@ -13,10 +14,10 @@ use Rattle.search.specs.declared.figures.Sort.the-variants.{Short, Past,
 use Rattle.search.specs.declared.trial.Trial.{Trial}
 use Rattle.search.specs.declared.pair.Pair.{Pair}
 use Rattle.search.specs.History.{Point, Trials, Proposal, End, between, exact, unreadable, allShort, History, tries, ends, pointsIn, endOf, onward, outwardBy, goingOn, outward, movedBy, attempt, isWide, halfway, halving, isInside, round, inward, history}
-use Rattle.search.specs.Demand.{IsShort, outPoint, AllOutwardShort, TriedBy, SomeUnreadable, LastUnreadable}
+use Rattle.search.specs.Demand.{IsShort, outPoint, FirstNotShort, EndsSo, AllOutwardShort, TriedBy, SomeUnreadable, LastUnreadable}
 use Rattle.search.proofs.Counts.{points}
-use Rattle.search.proofs.Rounds.{Within, gap, inward-within, pick-holds}
-use Rattle.search.proofs.Reach.{outPoint-zero, outPoint-suc, on-short}
+use Rattle.search.proofs.Rounds.{Within, gap, inward-within, pick-holds, is-short}
+use Rattle.search.proofs.Reach.{outPoint-zero, outPoint-suc, on-short, history-reached, found}
 
 -- ---- All outward points short.
 abbrev NotAllShort : End → Type 0
@@ -93,7 +94,7 @@ some-append : (ps : List Point) (p : Point) → p .trial .sort ≡ Unreadable �
 some-append [] p e = inl e
 some-append (q ∷ ps) p e = inr (some-append ps p e)
 
-last-some : {ps : List Point} → LastUnreadable ps → SomeUnreadable ps
+pub last-some : {ps : List Point} → LastUnreadable ps → SomeUnreadable ps
 last-some l = rw (l .all) (some-append (l .before) (l .last) (l .last-is))
 
 abbrev NotUnreadable : End → Type 0
@@ -218,3 +219,27 @@ module _ (ev : Trials) where
 
       pub some-unreadable : (endOf (history ev pr first error) ≡ unreadable) ↔ SomeUnreadable (pointsIn (history ev pr first error))
       some-unreadable = (λ e. last-some (unreadable-last e), fair-unreadable (history ev pr first error) history-fair)
+
+-- ---- However it ends.
+
+-- All of n outward points are short, or there is a first that isn't.
+first-of : (ev : Trials) (first n : ℕ) → ((i : ℕ) → i < n → IsShort (ev (outPoint first i) .sort)) ⊎ ((k : ℕ) × FirstNotShort ev first n k)
+first-of ev first zero = inl (λ i l. absurd (omega arith))
+first-of ev first (suc n) =
+    ⊎-elim
+    (λ all. ⊎-elim (λ s. inl (up-to all s)) (λ x. inr (n, record { among = omega arith; shorts = all; not-short = x })) (is-short (ev (outPoint first n) .sort)))
+    (λ f. inr (f .0, record { among = omega (arith, f .1 .among); shorts = f .1 .shorts; not-short = f .1 .not-short }))
+    (first-of ev first n)
+  where
+    up-to : ((i : ℕ) → i < n → IsShort (ev (outPoint first i) .sort)) → IsShort (ev (outPoint first n) .sort) → (i : ℕ) → i < suc n → IsShort (ev (outPoint first i) .sort)
+    up-to all s i l = elim (decLt i n) [
+      | yes m ↦ all i m
+      | no m ↦ let e : i ≡ n = omega arith in rw e s
+    ]
+
+pub ends-so : EndsSo
+ends-so ev pr first error sorts =
+    ⊎-elim
+    (λ all. inr (inr (all-short ev pr first error .1 all)))
+    (λ f. ⊎-elim inl (λ u. inr (inl (u .0))) (found ev (outPoint first (f .0)) (endOf (history ev pr first error)) (history-reached ev pr first error sorts (f .0) (f .1))))
+    (first-of ev first 41)
