@@ -5,3 +5,4 @@ pub mod Rounds
 pub mod Reach
 pub mod Refusals
 pub mod Instance
+pub mod Cases

@@ -79,9 +79,10 @@ module _ (ev : Trials) (pr : Proposal) (first : ℕ) (error : Float) where
   -- Refusal 5: "all 41 outward points are short".
   pub all-short : (endOf (history ev pr first error) ≡ allShort) ↔ AllOutwardShort ev first
   unfolding history
-  all-short =
-      (λ e. short-outward ev 41 0 error first (onward-not [] (outward ev 41 0 error first) (inward ev pr 63 0) (inward-not ev pr 63 0) e),
-      λ h. outward-short ev 41 0 error first [] (inward ev pr 63 0) h .0)
+  all-short = (
+    λ e. short-outward ev 41 0 error first (onward-not [] (outward ev 41 0 error first) (inward ev pr 63 0) (inward-not ev pr 63 0) e),
+    λ h. outward-short ev 41 0 error first [] (inward ev pr 63 0) h .0,
+  )
 
   -- With the 41 points used.
   pub all-short-points : AllOutwardShort ev first → points (history ev pr first error) ≡ 41
