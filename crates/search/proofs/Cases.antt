@@ -107,7 +107,7 @@ forward :
     ∷ short 0x3fc557f619cd935c 0xbd50000000000000
     ∷ past 0x3fc557f619cd935d 0x3d50000000000000
     ∷ [])
-unfolding ofBits toBits neg add sub mul div lt eq ne beyondOne reducedFrom nested c4Of c5Of atReduced doublings quotientsOf coefficientsOf sumsOf timeErrorOf radiusOf anomalyAt sortOf unevaluated evaluatedAt trialAt onward outward halving rule.round inward history counted offeredAt byRadius byInterval byEnds proposed
+unfolding ofBits toBits neg add sub mul div lt eq ne beyondOne reducedFrom nested c4Of c5Of atReduced doublings quotientsOf coefficientsOf sumsOf timeErrorOf radiusOf anomalyAt sortOf unevaluated evaluatedAt trialAt onward outward halving rule.round inward history offeredAt byRadius byInterval byEnds proposed
 forward = refl
 
 -- Back in time: position (-4000, -8000, 7000) km, velocity (3.5, -5.6, -3.5) km/s, τ = -3600 s. 21 outward points, then eight rounds, two without a
@@ -153,5 +153,5 @@ backward :
     ∷ short 0x3fd1505baf00440c 0x3d60000000000000
     ∷ past 0x3fd1505baf00440d 0xbd78000000000000
     ∷ [])
-unfolding ofBits toBits neg add sub mul div lt eq ne beyondOne reducedFrom nested c4Of c5Of atReduced doublings quotientsOf coefficientsOf sumsOf timeErrorOf radiusOf anomalyAt sortOf unevaluated evaluatedAt trialAt onward outward halving rule.round inward history counted offeredAt byRadius byInterval byEnds proposed
+unfolding ofBits toBits neg add sub mul div lt eq ne beyondOne reducedFrom nested c4Of c5Of atReduced doublings quotientsOf coefficientsOf sumsOf timeErrorOf radiusOf anomalyAt sortOf unevaluated evaluatedAt trialAt onward outward halving rule.round inward history offeredAt byRadius byInterval byEnds proposed
 backward = refl

@@ -1,8 +1,8 @@
 -- The search of document 01 keeps its promise: the general theorems at its trial points and its three proposals.
-use Prim.Native.Nat.{ℕ, _+_, _^_, _≤_}
-use mathlib.Core.Path.{_≡_, refl, ap, sym, _∙_, subst}
-use mathlib.Core.Bool.{Bool, true, false}
-use mathlib.Core.Logic.{_⊎_, inl, inr, ⊎-elim, _↔_}
+use Prim.Native.Nat.{ℕ, _+_, _≤_}
+use mathlib.Core.Path.{_≡_, refl, ap, _∙_, subst}
+use mathlib.Core.Bool.{false}
+use mathlib.Core.Logic.{inl, inr, ⊎-elim, _↔_}
 use native.Mathlib.Omega.{arith}
 use lib.ListN.{length}
 use lib.Ieee.{Float, neg, eq}
@@ -18,11 +18,11 @@ use Rattle.search.specs.Trial.{placeOf, anomalyAt, unevaluated, trialAt}
 use Rattle.search.specs.History.{Trials, Proposal, End, between, exact, unreadable, allShort, endOf, ended, counted}
 use Rattle.search.specs.Proposals.{threeProposals}
 use Rattle.search.specs.Search.{historyAt, answerOf, searchOf}
-use Rattle.search.specs.Demand.{Sorts, IsFound, AllOutwardShort, SomeUnreadable, LastUnreadable, IsAnomaly, Findable, usedIn, triedAt, Says, Searched, Promise}
-use Rattle.search.proofs.Counts.{points, counted-is}
-use Rattle.search.proofs.Rounds.{points-sharp}
+use Rattle.search.specs.Demand.{Sorts, IsFound, historyIn, AllOutwardShort, TriedBy, SomeUnreadable, LastUnreadable, IsAnomaly, Findable, usedIn, triedAt, Says, Searched, Promise}
+use Rattle.search.proofs.Counts.{counted-is}
+use Rattle.search.proofs.Rounds.{rounds-63, points-sharp}
 use Rattle.search.proofs.Reach.{finds}
-use Rattle.search.proofs.Refusals.{all-short, all-short-points, some-unreadable, last-some, unreadable-last, ends-so}
+use Rattle.search.proofs.Refusals.{all-short, all-short-points, some-unreadable, last-some, unreadable-last, history-tried, ends-so}
 
 -- "Place 0 has R = −τ here"; "A place at or above 2047·2^52 is unreadable."
 pub sorts-at : (i : Initial) (tau : Seconds) → Sorts (trialAt i tau) (neg (tau .0))
@@ -104,9 +104,17 @@ pub promise : (i : Initial) (tau : Seconds) (h : Float) → Promise i tau h (sea
 unfolding searchOf
 promise i tau h = record { no-interval = λ e. rw e; interval = λ e. rw e (searched i tau (placeOf h)) }
 
--- ---- The same, of `searchOf` itself, where tau isn't zero.
+-- The points that it tries are those of its trial function.
+pub tried-at : (i : Initial) (tau : Seconds) (first : ℕ) → TriedBy (trialAt i tau) (triedAt i tau first)
+tried-at i tau first = history-tried (trialAt i tau) (threeProposals i tau) first (neg (tau .0))
+
+-- "At most 63 rounds" is no rule of its own here: any more change nothing.
+pub rounds-at : (i : Initial) (tau : Seconds) (h : Float) (more : ℕ) → historyIn (63 + more) (trialAt i tau) (threeProposals i tau) (placeOf h) (neg (tau .0)) ≡ historyAt i tau (placeOf h)
+rounds-at i tau h more = rounds-63 (trialAt i tau) (placeOf h) (neg (tau .0)) (threeProposals i tau) (omega arith) more
+
+-- ---- The promise once more, of `searchOf` itself, where tau isn't zero.
 module _ (i : Initial) (tau : Seconds) (h : Float) (interval : eq (tau .0) n0 ≡ false) where
-  abbrev kept : Searched i tau (placeOf h) (searchOf i tau h)
+  kept : Searched i tau (placeOf h) (searchOf i tau h)
   kept = promise i tau h .interval interval
 
   -- Demand 3: "if some of the 41 outward points isn't short and no double up to the first such point is unreadable, an anomaly is found, exact or short
@@ -116,12 +124,19 @@ module _ (i : Initial) (tau : Seconds) (h : Float) (interval : eq (tau .0) n0 �
   demand3 f =
       let x = kept .finds f in
       let y = subst (Says i tau (placeOf h)) (x .1) (kept .says) in
-      (y .0, usedIn (searchOf i tau h), x .1 ∙ ap (λ (psi : Anomaly). answer.Found psi (usedIn (searchOf i tau h))) (y .1), y .2, kept .counts, kept .at-most)
+      let n = usedIn (searchOf i tau h) in
+      (y .0, n, x .1 ∙ ap (λ (psi : Anomaly). answer.Found psi n) (y .1), y .2, kept .counts, kept .at-most)
 
-  -- Refusal 5.
+  -- Refusal 5, with 41 points.
   pub refusal5 : ((n : ℕ) × (searchOf i tau h ≡ answer.AllShort n)) ↔ AllOutwardShort (trialAt i tau) (placeOf h)
   refusal5 = (λ x. rw (x .1) at (kept .says), λ a. (41, kept .all-short a))
 
-  -- Refusal 6.
+  pub refusal5-points : (n : ℕ) → searchOf i tau h ≡ answer.AllShort n → n ≡ 41
+  refusal5-points n e = cc (kept .all-short (refusal5 .0 (n, e)))
+
+  -- Refusal 6, with the points used so far, of which the last is the unreadable one.
   pub refusal6 : ((n : ℕ) × (searchOf i tau h ≡ answer.Unreadable n)) ↔ SomeUnreadable (triedAt i tau (placeOf h))
   refusal6 = (λ x. last-some (rw (x .1) at (kept .says)), λ u. (usedIn (searchOf i tau h), kept .unreadable u))
+
+  pub refusal6-points : (n : ℕ) → searchOf i tau h ≡ answer.Unreadable n → (n ≡ length (triedAt i tau (placeOf h))) × LastUnreadable (triedAt i tau (placeOf h))
+  refusal6-points n e = (rw e at (kept .counts), rw e at (kept .says))

@@ -1,11 +1,11 @@
 -- An anomaly is found, whatever formula proposes the inner points: every pair of the search has a short end below a past end, and the rounds bring the two
 -- together.
-use Prim.Native.Nat.{ℕ, zero, suc, _+_, _*_, _^_, _≤_, _<_}
+use Prim.Native.Nat.{ℕ, zero, suc, _+_, _^_, _≤_, _<_}
 use mathlib.Core.Path.{_≡_, refl, ap, sym, _∙_, subst}
 use mathlib.Core.List.{[]}
 use mathlib.Core.Logic.{_⊎_, inl, inr, ⊎-elim}
 use native.Mathlib.Nat.{le-refl}
-use native.Mathlib.Decide.{decLe, decLt}
+use native.Mathlib.Decide.{decLe}
 use native.Mathlib.Omega.{arith}
 use lib.Ieee.{Float}
 use Rattle.search.specs.declared.figures.Sort.{Sort}
@@ -14,7 +14,7 @@ use Rattle.search.specs.declared.trial.Trial.{Trial}
 use Rattle.search.specs.declared.pair.Pair.{Pair}
 use Rattle.search.specs.History.{Trials, Proposal, End, between, exact, unreadable, allShort, History, endOf, outwardBy, goingOn, outward, movedBy, moved, inward, history}
 use Rattle.search.specs.Demand.{IsShort, outPoint, Sorts, FirstNotShort, ReadableUpTo, IsFound, Finds}
-use Rattle.search.proofs.Rounds.{Within, onward-within, inward-within, is-short}
+use Rattle.search.proofs.Rounds.{Within, onward-within, inward-within}
 
 -- A pair that holds: its ends are what it says, in order, and not beyond the first outward point that isn't short.
 pub record Held (ev : Trials) (top : ℕ) (s : Pair) : Type 0 where

@@ -1,14 +1,12 @@
 -- The two refusals of the search, for any trial function and any proposal: it ends with all outward points short exactly when they are, and with an unreadable
 -- point exactly when one was tried, which is then the last.
-use Prim.Native.Nat.{ℕ, zero, suc, _+_, _^_, _≤_, _<_}
-use mathlib.Core.Path.{_≡_, refl, ap, sym, _∙_, subst}
-use mathlib.Core.Bool.{Bool, true, false}
+use Prim.Native.Nat.{ℕ, zero, suc, _+_, _^_, _<_}
+use mathlib.Core.Path.{_≡_, refl, ap, subst}
 use mathlib.Core.List.{List, [], _∷_, _++_}
 use mathlib.Core.Logic.{_⊎_, inl, inr, ⊎-elim, _↔_}
 use native.Mathlib.Decide.{decLt}
 use native.Mathlib.Omega.{arith}
 use lib.Ieee.{Float}
-use Rattle.bits.specs.Choice.{pick}
 use Rattle.search.specs.declared.figures.Sort.{Sort}
 use Rattle.search.specs.declared.figures.Sort.the-variants.{Short, Past, Exact, Unreadable}
 use Rattle.search.specs.declared.trial.Trial.{Trial}

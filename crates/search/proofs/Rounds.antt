@@ -1,5 +1,5 @@
--- A round at least halves the gap between the two places, whatever is tried and whatever proposes: so the gap alone bounds the rounds, 52 after a short
--- first point and 63 before one, and the 63 of document 01 are no rule of their own.
+-- A round at least halves the gap between the two places, whatever is tried and whatever proposes: so the gap alone bounds the rounds, to 52 where the
+-- first outward point is short and to 63 where it isn't, and the 63 of document 01 are no rule of their own.
 use Prim.Native.Nat.{ℕ, zero, suc, _+_, _-_, _*_, _^_, _≤_, _<_}
 use mathlib.Core.Path.{_≡_, refl, ap, subst}
 use mathlib.Core.Bool.{Bool, true, false, _&&_}
@@ -173,7 +173,7 @@ module _ (ev : Trials) where
       go Unreadable x = omega arith
 
   module _ (first : ℕ) (error : Float) where
-    -- From k = 0 the gap is below 2 ^ 63, from k >= 1 it is 2 ^ 52.
+    -- From k = 0 the gap is at most 2 ^ 63, from k >= 1 at most 2 ^ 52.
     pub gap-63 : first < 2 ^ 63 → Within Any (2 ^ 63) (endOf (outward ev 41 0 error first))
     gap-63 h = outward-gap (2 ^ 63) 41 0 error first (omega arith) (omega arith)
 

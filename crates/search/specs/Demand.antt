@@ -1,11 +1,12 @@
--- What the search promises (document 01, demand 3 and "What holds the contracts honest"), for any trial function and any proposal.
+-- What the search promises (document 01, demand 3 and "What holds the contracts honest"), for any trial function and any proposal, and
+-- then what the search of document 01 promises its caller.
 use Prim.Native.Nat.{ℕ, _+_, _*_, _^_, _<_, _≤_}
 use mathlib.Core.Path.{_≡_}
+use mathlib.Core.Bool.{true, false}
 use mathlib.Core.List.{List, [], _∷_, _++_}
 use mathlib.Core.Logic.{_⊎_}
-use mathlib.Core.Bool.{true, false}
-use lib.Ieee.{Float, eq}
 use lib.ListN.{length}
+use lib.Ieee.{Float, eq}
 use Rattle.bits.specs.Arithmetic.{n0}
 use Rattle.series.specs.declared.figures.Anomaly.{Anomaly}
 use Rattle.series.specs.declared.figures.Seconds.{Seconds}
@@ -16,8 +17,8 @@ use Rattle.search.specs.declared.figures.Sort.{Sort}
 use Rattle.search.specs.declared.figures.Sort.the-variants.{Short, Past, Exact, Unreadable}
 use Rattle.search.specs.declared.trial.Trial.{Trial}
 use Rattle.search.specs.Trial.{placeOf, anomalyAt, trialAt}
-use Rattle.search.specs.Search.{historyAt}
 use Rattle.search.specs.History.{Point, Trials, Proposal, End, between, exact, unreadable, allShort, History, pointsIn, endOf, onward, outward, inward, history}
+use Rattle.search.specs.Search.{historyAt}
 
 abbrev pub IsShort : Sort → Type 0
 IsShort (Short r) = Unit {0}
@@ -107,6 +108,7 @@ pub record Findable (ev : Trials) (first : ℕ) : Type 0 where
   pub first-not-short : FirstNotShort ev first 41 k
   pub readable : ReadableUpTo ev (outPoint first k)
 
+-- The points that an answer reports.
 abbrev pub usedIn : Answer → ℕ
 usedIn (answer.Found psi n) = n
 usedIn (answer.AllShort n) = n
@@ -122,7 +124,7 @@ Says i tau first (answer.Found psi n) = (p : ℕ) × (psi ≡ anomalyAt tau p) �
 Says i tau first (answer.AllShort n) = AllOutwardShort (trialAt i tau) first
 Says i tau first (answer.Unreadable n) = LastUnreadable (triedAt i tau first)
 
--- And when it is given; its count is the number of points tried, "the rule's own history has the count".
+-- And when it is given. "A made-up point count breaks demand 3, because the rule's own history has the count."
 pub record Searched (i : Initial) (tau : Seconds) (first : ℕ) (a : Answer) : Type 0 where
   pub says : Says i tau first a
   pub finds : Findable (trialAt i tau) first → (psi : Anomaly) × (a ≡ answer.Found psi (usedIn a))
@@ -131,7 +133,7 @@ pub record Searched (i : Initial) (tau : Seconds) (first : ℕ) (a : Answer) : T
   pub counts : usedIn a ≡ length (triedAt i tau first)
   pub at-most : usedIn a ≤ 145
 
--- "If τ is either zero, ψ = +0 with no trial points."
+-- All that a caller learns. "If τ is either zero, ψ = +0 with no trial points."
 pub record Promise (i : Initial) (tau : Seconds) (h : Float) (a : Answer) : Type 0 where
   pub no-interval : eq (tau .0) n0 ≡ true → a ≡ answer.Found (record { 0 = n0 }) 0
   pub interval : eq (tau .0) n0 ≡ false → Searched i tau (placeOf h) a
