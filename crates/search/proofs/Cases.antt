@@ -66,9 +66,8 @@ rows (ends allShort) = []
 abbrev Tries : Initial → Seconds → (h : Float) → List Row → Type 0
 Tries i tau h points = rows (historyAt i tau (placeOf h)) ≡ points
 
--- A closed orbit: μ = 398600.4418 km^3/s^2, position (-2500, -4000, 2000) km, velocity (-6.8, -4.4, 8.7) km/s, τ = 1800 s. 20 outward points, then seven
--- rounds: in turn the first, second, first, third and first formula, none, and the first. The anomaly is
--- 0x3fc557f619cd935c after 32 points.
+-- A closed orbit: μ = 398600.4418 km^3/s^2, position (-2500, -4000, 2000) km, velocity (-6.8, -4.4, 8.7) km/s, τ = 1800 s. After 20 outward points there are
+-- seven rounds, which take in turn the first, second, first, third and first proposal, none, and the first.
 forward :
     Tries (initial 0x41185421c467381d 0x40b40379b2b2ef50 0x40e9640000000000 0xc02c9d883eb95380) (seconds 0x409c200000000000) (number 0x3e967c17c4c5e46e)
     (
@@ -110,8 +109,8 @@ forward :
 unfolding ofBits toBits neg add sub mul div lt eq ne beyondOne reducedFrom nested c4Of c5Of atReduced doublings quotientsOf coefficientsOf sumsOf timeErrorOf radiusOf anomalyAt sortOf unevaluated evaluatedAt trialAt onward outward halving rule.round inward history offeredAt byRadius byInterval byEnds proposed
 forward = refl
 
--- Back in time: position (-4000, -8000, 7000) km, velocity (3.5, -5.6, -3.5) km/s, τ = -3600 s. 21 outward points, then eight rounds, two without a
--- proposal.
+-- Back in time: position (-4000, -8000, 7000) km, velocity (3.5, -5.6, -3.5) km/s, τ = -3600 s. After 21 outward points there are eight rounds: the first,
+-- second, first, third, first and first proposal, and twice none.
 backward :
     Tries (initial 0x41185421c467381d 0x40c62ee88959b1a2 0x40b89c0000000000 0xc02ca8c47bbc2e10) (seconds 0xc0ac200000000000) (number 0x3e94491c5a5b2f49)
     (
