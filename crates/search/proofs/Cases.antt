@@ -37,7 +37,7 @@ pub marked :
     (searchOf (initial 0 0x3ff0000000000000 0 0) (seconds 0x3ff0000000000000) (number 0x3eb0000000000000) ≡ found 0x3ff0000000000000 21)
     × (searchOf (initial 0 0x3ff0000000000000 0 0) (seconds 0xbff0000000000000) (number 0x3eb0000000000000) ≡ found 0xbff0000000000000 21)
     × (searchOf (initial 0 0x3ff0000000000000 0 0x7e70000000000000) (seconds 0x4270000000000000) (number 0x4130000000000000) ≡ answer.Unreadable 1)
-unfolding searchOf ofBits toBits neg add sub mul div lt eq ne beyondOne reducedFrom nested c4Of c5Of atReduced doublings quotientsOf coefficientsOf sumsOf timeErrorOf radiusOf anomalyAt sortOf unevaluated evaluatedAt trialAt onward outward halving rule.round inward history counted offeredAt byRadius byInterval byEnds proposed
+unfolding searchOf ofBits toBits sub mul div lt ne beyondOne reducedFrom nested c4Of c5Of atReduced coefficientsOf sumsOf timeErrorOf anomalyAt sortOf unevaluated evaluatedAt trialAt onward outward history counted
 marked = (refl, refl, refl)
 
 -- "If τ is either zero, ψ = +0 with no trial points."
