@@ -1,10 +1,23 @@
--- What the search promises (document 01, demand 3 and "What holds the contracts honest"), for any trial function and any proposal.
+-- What the search promises (document 01, demand 3 and "What holds the contracts honest"), for any trial function and any proposal, and
+-- then what the search of document 01 promises its caller.
 use Prim.Native.Nat.{ℕ, _+_, _*_, _^_, _<_, _≤_}
 use mathlib.Core.Path.{_≡_}
-use lib.Ieee.{Float}
+use mathlib.Core.Bool.{true, false}
+use mathlib.Core.List.{List, [], _∷_, _++_}
+use mathlib.Core.Logic.{_⊎_}
+use lib.ListN.{length}
+use lib.Ieee.{Float, eq}
+use Rattle.bits.specs.Arithmetic.{n0}
+use Rattle.series.specs.declared.figures.Anomaly.{Anomaly}
+use Rattle.series.specs.declared.figures.Seconds.{Seconds}
+use Rattle.search.specs.declared.figures.Initial.{Initial}
+use Rattle.search.specs.declared.figures.Answer.{Answer}
+use Rattle.search.specs.declared.figures.Answer.the-variants as answer
 use Rattle.search.specs.declared.figures.Sort.{Sort}
 use Rattle.search.specs.declared.figures.Sort.the-variants.{Short, Past, Exact, Unreadable}
-use Rattle.search.specs.History.{Trials, Proposal, End, between, exact, unreadable, allShort, endOf, history}
+use Rattle.search.specs.Trial.{placeOf, anomalyAt, trialAt}
+use Rattle.search.specs.History.{Point, Trials, Proposal, End, between, exact, unreadable, allShort, History, pointsIn, endOf, onward, outward, inward, history}
+use Rattle.search.specs.Search.{historyAt}
 
 abbrev pub IsShort : Sort → Type 0
 IsShort (Short r) = Unit {0}
@@ -45,3 +58,81 @@ Finds =
     (ev : Trials) (pr : Proposal) (first k : ℕ) (error : Float) →
     Sorts ev error → FirstNotShort ev first 41 k → ReadableUpTo ev (outPoint first k) →
     IsFound ev (endOf (history ev pr first error))
+
+-- However it ends: an anomaly is found, an unreadable point was tried, or all outward points were short.
+abbrev pub EndsSo : Type 0
+EndsSo =
+    (ev : Trials) (pr : Proposal) (first : ℕ) (error : Float) →
+    Sorts ev error → IsFound ev (endOf (history ev pr first error)) ⊎ ((endOf (history ev pr first error) ≡ unreadable) ⊎ (endOf (history ev pr first error) ≡ allShort))
+
+-- ---- The sharper bounds that the places give.
+
+-- The history with another number of rounds.
+abbrev pub historyIn : (rounds : ℕ) → Trials → Proposal → (first : ℕ) (error : Float) → History
+historyIn rounds ev pr first error = onward [] (outward ev 41 0 error first) (inward ev pr rounds 0)
+
+-- ---- The two refusals.
+
+-- All 41 outward points are short.
+abbrev pub AllOutwardShort : Trials → (first : ℕ) → Type 0
+AllOutwardShort ev first = (i : ℕ) → i < 41 → IsShort (ev (outPoint first i) .sort)
+
+-- Each point's figures are those of its place.
+abbrev pub TriedBy : Trials → List Point → Type 0
+TriedBy ev [] = Unit {0}
+TriedBy ev (p ∷ ps) = (p .trial ≡ ev (p .place)) × TriedBy ev ps
+
+-- Some point of these is unreadable.
+abbrev pub SomeUnreadable : List Point → Type 0
+SomeUnreadable [] = ⊥
+SomeUnreadable (p ∷ ps) = (p .trial .sort ≡ Unreadable) ⊎ SomeUnreadable ps
+
+-- The last point of these is unreadable, and no other.
+pub record LastUnreadable (ps : List Point) : Type 0 where
+  pub before : List Point
+  pub last : Point
+  pub all : ps ≡ before ++ (last ∷ [])
+  pub last-is : last .trial .sort ≡ Unreadable
+  pub readable-before : SomeUnreadable before → ⊥
+
+-- ---- The search of document 01: what its caller learns without opening the history.
+
+-- An anomaly's place: the time error there is zero, or it is short and the very next place is past.
+abbrev pub IsAnomaly : Initial → Seconds → ℕ → Type 0
+IsAnomaly i tau p = (trialAt i tau p .sort ≡ Exact) ⊎ ((r r' : Float) × (trialAt i tau p .sort ≡ Short r) × (trialAt i tau (p + 1) .sort ≡ Past r'))
+
+-- Demand 3's premise: some outward point isn't short, and no place up to the first such point is unreadable.
+pub record Findable (ev : Trials) (first : ℕ) : Type 0 where
+  pub k : ℕ
+  pub first-not-short : FirstNotShort ev first 41 k
+  pub readable : ReadableUpTo ev (outPoint first k)
+
+-- The points that an answer reports.
+abbrev pub usedIn : Answer → ℕ
+usedIn (answer.Found psi n) = n
+usedIn (answer.AllShort n) = n
+usedIn (answer.Unreadable n) = n
+
+-- The points that the search tries, in order.
+abbrev pub triedAt : Initial → Seconds → (first : ℕ) → List Point
+triedAt i tau first = pointsIn (historyAt i tau first)
+
+-- What an answer says, where tau isn't zero.
+abbrev pub Says : Initial → Seconds → (first : ℕ) → Answer → Type 0
+Says i tau first (answer.Found psi n) = (p : ℕ) × (psi ≡ anomalyAt tau p) × IsAnomaly i tau p
+Says i tau first (answer.AllShort n) = AllOutwardShort (trialAt i tau) first
+Says i tau first (answer.Unreadable n) = LastUnreadable (triedAt i tau first)
+
+-- And when it is given. "A made-up point count breaks demand 3, because the rule's own history has the count."
+pub record Searched (i : Initial) (tau : Seconds) (first : ℕ) (a : Answer) : Type 0 where
+  pub says : Says i tau first a
+  pub finds : Findable (trialAt i tau) first → (psi : Anomaly) × (a ≡ answer.Found psi (usedIn a))
+  pub all-short : AllOutwardShort (trialAt i tau) first → a ≡ answer.AllShort 41
+  pub unreadable : SomeUnreadable (triedAt i tau first) → a ≡ answer.Unreadable (usedIn a)
+  pub counts : usedIn a ≡ length (triedAt i tau first)
+  pub at-most : usedIn a ≤ 145
+
+-- All that a caller learns. "If τ is either zero, ψ = +0 with no trial points."
+pub record Promise (i : Initial) (tau : Seconds) (h : Float) (a : Answer) : Type 0 where
+  pub no-interval : eq (tau .0) n0 ≡ true → a ≡ answer.Found (record { 0 = n0 }) 0
+  pub interval : eq (tau .0) n0 ≡ false → Searched i tau (placeOf h) a

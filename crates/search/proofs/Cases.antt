@@ -1,0 +1,156 @@
+-- Document 01's marked cases of the search, and two searches with many inner points, computed here from the definitions. The figures of the two come from an
+-- independent program.
+use Prim.Native.Nat.{ℕ}
+use mathlib.Core.Path.{_≡_, refl}
+use mathlib.Core.List.{List, [], _∷_}
+use lib.Ieee.{Float, binary64, ofBits, toBits, neg, add, sub, mul, div, lt, eq, ne}
+use Rattle.series.specs.Series.{beyondOne, reducedFrom, nested, c4Of, c5Of, atReduced, doublings, quotientsOf, coefficientsOf, sumsOf}
+use Rattle.series.specs.declared.figures.Seconds.{Seconds}
+use Rattle.search.specs.declared.figures.Initial.{Initial}
+use Rattle.search.specs.declared.figures.Answer.{Answer}
+use Rattle.search.specs.declared.figures.Answer.the-variants as answer
+use Rattle.search.specs.declared.figures.Sort.{Sort}
+use Rattle.search.specs.declared.figures.Sort.the-variants.{Short, Past, Exact}
+use Rattle.search.specs.Residual.{timeErrorOf, radiusOf}
+use Rattle.search.specs.Trial.{placeOf, anomalyAt, sortOf, unevaluated, evaluatedAt, trialAt}
+use Rattle.search.specs.History.{between, exact, unreadable, allShort, History, tries, ends, onward, outward, halving, inward, history, counted}
+use Rattle.search.specs.History as rule
+use Rattle.search.specs.Proposals.{offeredAt, byRadius, byInterval, byEnds, proposed}
+use Rattle.search.specs.Search.{historyAt, searchOf}
+
+-- Figures by their words.
+abbrev number : ℕ → Float
+number = ofBits binary64
+
+abbrev initial : (mu r0 sigma0 alpha : ℕ) → Initial
+initial mu r0 sigma0 alpha = record { mu = number mu; r0 = number r0; sigma0 = number sigma0; alpha = number alpha }
+
+abbrev seconds : ℕ → Seconds
+seconds tau = record { 0 = number tau }
+
+abbrev found : (psi points : ℕ) → Answer
+found psi points = answer.Found (record { 0 = number psi }) points
+
+-- "P10 μ = 0, position (1,0,0), at rest, τ = 1: ψ = 1, 21 points. P11 the same, τ = −1: ψ = −1, 21 points." There r0 = 1, σ0 = α = 0 and H = 2^−20.
+-- "P12 position (1,0,0), velocity (0,2^500,0), μ = 0, τ = 2^40: 6 with 1 point." There r0 = 1, σ0 = 0, α = 2^1000 and H = 2^20.
+pub marked :
+    (searchOf (initial 0 0x3ff0000000000000 0 0) (seconds 0x3ff0000000000000) (number 0x3eb0000000000000) ≡ found 0x3ff0000000000000 21)
+    × (searchOf (initial 0 0x3ff0000000000000 0 0) (seconds 0xbff0000000000000) (number 0x3eb0000000000000) ≡ found 0xbff0000000000000 21)
+    × (searchOf (initial 0 0x3ff0000000000000 0 0x7e70000000000000) (seconds 0x4270000000000000) (number 0x4130000000000000) ≡ answer.Unreadable 1)
+unfolding searchOf ofBits toBits sub mul div lt ne beyondOne reducedFrom nested c4Of c5Of atReduced coefficientsOf sumsOf timeErrorOf anomalyAt sortOf unevaluated evaluatedAt trialAt onward outward history counted
+marked = (refl, refl, refl)
+
+-- "If τ is either zero, ψ = +0 with no trial points."
+pub no-interval : (i : Initial) (h : Float) → (searchOf i (seconds 0) h ≡ found 0 0) × (searchOf i (seconds 0x8000000000000000) h ≡ found 0 0)
+unfolding ofBits eq searchOf
+no-interval i h = (refl, refl)
+
+-- A point: its place, and its sort with the word of its time error.
+abbrev Row : Type 0
+Row = ℕ × Sort
+
+abbrev short : (place error : ℕ) → Row
+short place error = (place, Short (number error))
+
+abbrev past : (place error : ℕ) → Row
+past place error = (place, Past (number error))
+
+abbrev rows : History → List Row
+rows (tries p h) = (p .place, p .trial .sort) ∷ rows h
+rows (ends (between s)) = (s .short, Short (s .«short_error»)) ∷ (s .past, Past (s .«past_error»)) ∷ []
+rows (ends (exact p)) = (p, Exact) ∷ []
+rows (ends unreadable) = []
+rows (ends allShort) = []
+
+-- Every point that a search tries, in order, and then the two neighbours, or the exact point, with which it ends.
+abbrev Tries : Initial → Seconds → (h : Float) → List Row → Type 0
+Tries i tau h points = rows (historyAt i tau (placeOf h)) ≡ points
+
+-- A closed orbit: μ = 398600.4418 km^3/s^2, position (-2500, -4000, 2000) km, velocity (-6.8, -4.4, 8.7) km/s, τ = 1800 s. After 20 outward points there are
+-- seven rounds, which take in turn the first, second, first, third and first proposal, none, and the first.
+forward :
+    Tries (initial 0x41185421c467381d 0x40b40379b2b2ef50 0x40e9640000000000 0xc02c9d883eb95380) (seconds 0x409c200000000000) (number 0x3e967c17c4c5e46e)
+    (
+    short 0x3e967c17c4c5e46e 0xc09c1ffe3dffcddb
+    ∷ short 0x3ea67c17c4c5e46e 0xc09c1ffc7bff376e
+    ∷ short 0x3eb67c17c4c5e46e 0xc09c1ff8f7fcddb6
+    ∷ short 0x3ec67c17c4c5e46e 0xc09c1ff1eff376d7
+    ∷ short 0x3ed67c17c4c5e46e 0xc09c1fe3dfcddb49
+    ∷ short 0x3ee67c17c4c5e46e 0xc09c1fc7bf376c91
+    ∷ short 0x3ef67c17c4c5e46e 0xc09c1f8f7cddadac
+    ∷ short 0x3f067c17c4c5e46e 0xc09c1f1ef37691f6
+    ∷ short 0x3f167c17c4c5e46e 0xc09c1e3dcdd921ff
+    ∷ short 0x3f267c17c4c5e46e 0xc09c1c7b375b5958
+    ∷ short 0x3f367c17c4c5e46e 0xc09c18f4dd23f305
+    ∷ short 0x3f467c17c4c5e46e 0xc09c11e37244658e
+    ∷ short 0x3f567c17c4c5e46e 0xc09c03adb6b9288d
+    ∷ short 0x3f667c17c4c5e46e 0xc09be6f6484dbf74
+    ∷ short 0x3f767c17c4c5e46e 0xc09bac548f4cce6e
+    ∷ short 0x3f867c17c4c5e46e 0xc09b322ddb374e8e
+    ∷ short 0x3f967c17c4c5e46e 0xc09a299743181ccf
+    ∷ short 0x3fa67c17c4c5e46e 0xc097c18c2ed1fece
+    ∷ short 0x3fb67c17c4c5e46e 0xc0916af043b07380
+    ∷ past 0x3fc67c17c4c5e46e 0x406414ea8f189d10
+    ∷ past 0x3fc55e91b0ee662a 0x400c6a881b92f800
+    ∷ short 0x3fbded54bada254c 0xc087edac395c6302
+    ∷ short 0x3fc5543516a2e674 0xc000214ec2c41600
+    ∷ past 0x3fc5596363c8a64f 0x3fe888f458c63800
+    ∷ past 0x3fc557f62485faff 0x3f1709e69c000000
+    ∷ short 0x3fc556159d9470b9 0xbff021c02b2d2800
+    ∷ short 0x3fc557f619cd2963 0xbe4c77e000000000
+    ∷ past 0x3fc557f61f299231 0x3f070902da000000
+    ∷ past 0x3fc557f619cd935d 0x3d50000000000000
+    ∷ short 0x3fc557f619cd5e60 0xbe3c780000000000
+    ∷ short 0x3fc557f619cd78de 0xbe2c780000000000
+    ∷ short 0x3fc557f619cd935c 0xbd50000000000000
+    ∷ short 0x3fc557f619cd935c 0xbd50000000000000
+    ∷ past 0x3fc557f619cd935d 0x3d50000000000000
+    ∷ [])
+unfolding ofBits toBits neg add sub mul div lt eq ne beyondOne reducedFrom nested c4Of c5Of atReduced doublings quotientsOf coefficientsOf sumsOf timeErrorOf radiusOf anomalyAt sortOf unevaluated evaluatedAt trialAt onward outward halving rule.round inward history offeredAt byRadius byInterval byEnds proposed
+forward = refl
+
+-- Back in time: position (-4000, -8000, 7000) km, velocity (3.5, -5.6, -3.5) km/s, τ = -3600 s. After 21 outward points there are eight rounds: the first,
+-- second, first, third, first and first proposal, and twice none.
+backward :
+    Tries (initial 0x41185421c467381d 0x40c62ee88959b1a2 0x40b89c0000000000 0xc02ca8c47bbc2e10) (seconds 0xc0ac200000000000) (number 0x3e94491c5a5b2f49)
+    (
+    short 0x3e94491c5a5b2f49 0x40ac1ffe3e000279
+    ∷ short 0x3ea4491c5a5b2f49 0x40ac1ffc7c0009e4
+    ∷ short 0x3eb4491c5a5b2f49 0x40ac1ff8f800278f
+    ∷ short 0x3ec4491c5a5b2f49 0x40ac1ff1f0009e3a
+    ∷ short 0x3ed4491c5a5b2f49 0x40ac1fe3e00278e4
+    ∷ short 0x3ee4491c5a5b2f49 0x40ac1fc7c009e36a
+    ∷ short 0x3ef4491c5a5b2f49 0x40ac1f8f80278c70
+    ∷ short 0x3f04491c5a5b2f49 0x40ac1f1f009e27fa
+    ∷ short 0x3f14491c5a5b2f49 0x40ac1e3e027851ad
+    ∷ short 0x3f24491c5a5b2f49 0x40ac1c7c09ded4d5
+    ∷ short 0x3f34491c5a5b2f49 0x40ac18f82767c449
+    ∷ short 0x3f44491c5a5b2f49 0x40ac11f09d029702
+    ∷ short 0x3f54491c5a5b2f49 0x40ac03e26f266ee9
+    ∷ short 0x3f64491c5a5b2f49 0x40abe7c9957899d8
+    ∷ short 0x3f74491c5a5b2f49 0x40abafa51cbeb8b9
+    ∷ short 0x3f84491c5a5b2f49 0x40ab3f8aa851021d
+    ∷ short 0x3f94491c5a5b2f49 0x40aa5fdc36e2446a
+    ∷ short 0x3fa4491c5a5b2f49 0x40a8a0fcadf8a948
+    ∷ short 0x3fb4491c5a5b2f49 0x40a518527b972067
+    ∷ short 0x3fc4491c5a5b2f49 0x409aec666a8a08ad
+    ∷ past 0x3fd4491c5a5b2f49 0xc08ba2df833f2b20
+    ∷ past 0x3fd17f51e16d1ca6 0xc049aaf2e8163440
+    ∷ short 0x3fcae4371de425f7 0x408f0476a00647bc
+    ∷ short 0x3fd127220b8379b1 0x40465cf9a8f3d540
+    ∷ past 0x3fd15339f6784b2b 0xc008fd2b8c0ba000
+    ∷ past 0x3fd1505bdd109d7e 0xbf49137dce000000
+    ∷ short 0x3fd13bbef44a0b97 0x403666f5ca127100
+    ∷ short 0x3fd1505baeeb7c08 0x3eb6a03200000000
+    ∷ past 0x3fd1505bc5fe0cc3 0xbf39082da9000000
+    ∷ past 0x3fd1505baf004417 0xbda8000000000000
+    ∷ short 0x3fd1505baef5e00f 0x3ea6a02700000000
+    ∷ short 0x3fd1505baf00440c 0x3d60000000000000
+    ∷ past 0x3fd1505baf004411 0xbd94000000000000
+    ∷ past 0x3fd1505baf00440e 0xbd80000000000000
+    ∷ past 0x3fd1505baf00440d 0xbd78000000000000
+    ∷ short 0x3fd1505baf00440c 0x3d60000000000000
+    ∷ past 0x3fd1505baf00440d 0xbd78000000000000
+    ∷ [])
+unfolding ofBits toBits neg add sub mul div lt eq ne beyondOne reducedFrom nested c4Of c5Of atReduced doublings quotientsOf coefficientsOf sumsOf timeErrorOf radiusOf anomalyAt sortOf unevaluated evaluatedAt trialAt onward outward halving rule.round inward history offeredAt byRadius byInterval byEnds proposed
+backward = refl
