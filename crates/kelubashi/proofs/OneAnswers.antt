@@ -3,6 +3,16 @@ use mathlib.Core.Path.{sym, _∙_}
 use Rattle.bits.specs.OneAnswer.{OneAnswer}
 use Rattle.kelubashi.proofs.kelubashi1_root.Kinds as root-kinds
 use Rattle.kelubashi.proofs.kelubashi1_root.Reads as root-reads
+use Rattle.kelubashi.proofs.kelubashi1_propagate.Kinds as propagate-kinds
+use Rattle.kelubashi.proofs.kelubashi1_propagate.Reads as propagate-reads
+use Rattle.kelubashi.proofs.kelubashi1_partials.Kinds as partials-kinds
+use Rattle.kelubashi.proofs.kelubashi1_partials.Reads as partials-reads
 
 pub root-one : OneAnswer 1 root-kinds.ps root-kinds.r root-reads.Post
 root-one κs a x y v w p q = (p .0 ∙ sym (q .0), λ i. (tt, ((p .1 ∙ sym (q .1)) i, tt)))
+
+pub propagate-one : OneAnswer 1 propagate-kinds.ps propagate-kinds.r propagate-reads.Post
+propagate-one κs a x y v w p q = (p .0 ∙ sym (q .0), λ i. (tt, (tt, (tt, (tt, (tt, (tt, (tt, (tt, ((p .1 ∙ sym (q .1)) i, tt))))))))))
+
+pub partials-one : OneAnswer 2 partials-kinds.ps partials-kinds.r partials-reads.Post
+partials-one κs a x y v w p q = (p .0 ∙ sym (q .0), λ i. (tt, (tt, (tt, (tt, (tt, (tt, (tt, (tt, ((p .1 ∙ sym (q .1)) i, ((p .2 ∙ sym (q .2)) i, tt)))))))))))
