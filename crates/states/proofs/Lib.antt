@@ -1,2 +1,3 @@
 -- The laws of this layer.
 pub mod WordLaws
+pub mod Demand

@@ -1,7 +1,6 @@
 -- Document 01, "Refusals in order of checking", for the two calls: "A refusal carries the trial points used so far (0 for 1 to 4 and 9), all other figures +0;
 -- lent memory keeps its bytes. The first that applies is given, and none otherwise."
 use mathlib.Core.List.{List}
-use mathlib.Core.Bool.{Bool}
 use Prim.Native.Nat.{ℕ}
 use lib.Dec.{eqb}
 use lib.ListN.{length}

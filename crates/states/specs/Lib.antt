@@ -2,4 +2,5 @@
 pub mod Words
 pub mod Initial
 pub mod Call
+pub mod Demand
 pub mod Cases

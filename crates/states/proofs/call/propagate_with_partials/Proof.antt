@@ -8,7 +8,6 @@ use borrow.Author.Needs.{needs}
 use lib.ListN.{length}
 use Rattle.bits.specs.Choice.{pick}
 use Rattle.states.specs.declared.figures.Reached.{Reached}
-use Rattle.states.specs.declared.figures.Reached.the-variants as reached
 use Rattle.states.specs.Call.{refused, reachedOf, partialsBy, lentBy, partialsOf, lentOf}
 use Rattle.states.proofs.call.propagate_with_partials.Statement.{statement}
 use Rattle.states.proofs.call.propagate_with_partials.Tie as tie

@@ -1,5 +1,5 @@
 -- Where H is finite, what the search found leads on.
-use mathlib.Core.Path.{sym, _∙_, ap}
+use mathlib.Core.Path.{sym, _∙_}
 use borrow.Author.Needs.{needs}
 use Rattle.states.specs.Call.{reachedFrom}
 use Rattle.states.proofs.call.reach_from.Statement.{statement}
