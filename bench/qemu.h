@@ -1,7 +1,6 @@
 /*
-**  qemu.h: what count.c needs of QEMU's plugin interface, written from its documentation ("QEMU TCG
-**  Plugins"). Debian packages the emulator without the header qemu-plugin.h. These few names and types
-**  are the same in all editions of the interface from 1 on.
+**  qemu.h: what count.c needs of edition 1 of QEMU's plugin interface, written from its documentation
+**  ("QEMU TCG Plugins"). Debian packages the emulator without the header qemu-plugin.h.
 */
 #ifndef QEMU_H
 #define QEMU_H

@@ -7,6 +7,7 @@
 #include "row.h"
 
 #include <stdio.h>
+#include <string.h>
 
 static const char *const columns[] = { "library", "plain", "empty", NULL };
 

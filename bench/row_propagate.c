@@ -8,6 +8,7 @@
 
 #include <math.h>
 #include <stdio.h>
+#include <string.h>
 
 static const char *const columns[] = { "library", "plain", "newton", "empty", NULL };
 

@@ -10,7 +10,6 @@ build=$here/../build
 x86=$here/../tests/machine.sh
 plugin=$build/bench/count.so
 machine=$(uname -m)
-passes=20
 
 fail() {
     echo "bench: $1" >&2
@@ -21,37 +20,61 @@ run() {
     sh "$x86" run "$@"
 }
 
-# Runs a program and prints how many instructions it took, which the plugin tells on standard error.
-counted() {
-    {
-        if [ "$machine" = aarch64 ]; then
-            QEMU_PLUGIN=$plugin sh "$x86" run "$@" >/dev/null
-        else
-            QEMU_PLUGIN=$plugin qemu-x86_64 "$@" >/dev/null
-        fi
-    } 2>&1
+emulated() {
+    if [ "$machine" = x86_64 ]; then
+        qemu-x86_64 "$@"
+    else
+        run "$@"
+    fi
 }
 
-# The emulator loads the plugin into itself: it is compiled for this machine and not for x86-64. Which edition
-# of the interface an emulator knows is found out by trying.
-build_plugin() {
+# One instruction a block: QEMU 7.2 tells a length one too great of a block that ends where an instruction lies across two
+# pages, and the count would change with the place of the code. The variable changed its name in QEMU 8.1.
+export QEMU_SINGLESTEP=1 QEMU_ONE_INSN_PER_TB=1
+
+# PROGRAM WORD..: how many instructions it takes, which the plugin tells on standard error.
+by_plugin() {
+    (
+        export QEMU_PLUGIN="$plugin"
+        emulated "$@" >/dev/null
+    ) 2>&1
+}
+
+# The same from the emulator's log of every block.
+by_log() {
+    (
+        export QEMU_LOG=exec,nochain
+        emulated "$@" 2>&1 >/dev/null
+    ) | grep -c '^Trace'
+}
+
+# Whether the way to count gives a number.
+counts() {
+    case $("$1" "$build/trial") in
+    '' | 0 | *[!0-9]*) return 1 ;;
+    esac
+}
+
+# For this machine and not for x86-64: the emulator loads it into itself.
+compile_plugin() {
+    cc -std=c99 -Wall -Wextra -pedantic -Werror -O2 -shared -fPIC -o "$plugin" "$here/count.c"
+}
+
+# An emulator that is linked statically takes no plugin, as Debian's from release 13 on; its log says the same, more slowly.
+choose() {
     command -v qemu-x86_64 >/dev/null || fail 'no emulator to count with; as root on Debian: apt-get install qemu-user'
-    command -v cc >/dev/null || fail 'no C compiler for this machine; as root on Debian: apt-get install gcc libc6-dev'
-    for edition in 1 2; do
-        cc -std=c99 -Wall -Wextra -pedantic -Werror -O2 -shared -fPIC -DEDITION=$edition \
-            -o "$plugin" "$here/count.c"
-        case $(counted "$build/trial") in
-        '' | *[!0-9]*) ;;
-        *) return ;;
-        esac
-    done
-    fail 'this emulator does not take the plugin bench/count.c; QEMU from 7.2 on should'
+    count=by_plugin passes=20
+    if command -v cc >/dev/null && compile_plugin && counts by_plugin; then
+        return
+    fi
+    count=by_log passes=2
+    counts by_log || fail 'this emulator counts neither with bench/count.c nor by its log: use QEMU 7.2, as in Debian 12'
 }
 
 # ROW COLUMN: instructions of all calls of a pass; what is the same in two runs, the start, falls out.
 instructions_of() {
-    once=$(counted "$build/bench/$1" "$2" "$passes")
-    twice=$(counted "$build/bench/$1" "$2" $((2 * passes)))
+    once=$("$count" "$build/bench/$1" "$2" "$passes")
+    twice=$("$count" "$build/bench/$1" "$2" $((2 * passes)))
     echo $(((twice - once) / passes))
 }
 
@@ -93,7 +116,7 @@ table() {
     done
 }
 
-build_plugin
+choose
 for row in "$@"; do
     [ -x "$build/bench/$row" ] || fail "there is no build/bench/$row: make bench builds it"
     run "$build/bench/$row" check
