@@ -1,6 +1,7 @@
 # make run      the root of a number through the C library: make run NUMBER=2.25
 # make check    all that must hold; ends in rt ci, whose last line is 'N passed, 0 failed'
 # make test     the C tests alone
+# make bench    instructions per call (and time on x86-64) beside plain C of the same rules: see bench/README.md
 # make lib      build/libkelubashi.a, for x86-64, from proved crates only
 # make clean    remove build/ and rt's target/
 
@@ -8,9 +9,13 @@ X86 = sh tests/machine.sh
 STRICT = -std=c99 -Wall -Wextra -pedantic -Werror -O2 -ffp-contract=off
 TESTS = build/tests/root
 
+# The table's rows: root propagate partials, as far as the library has the calls.
+BENCH = root
+BESIDE = bench/plain.c bench/plain_root.c bench/plain_search.c bench/newton.c bench/orbits.c bench/empty.c bench/row.c
+
 # One step at a time, in the order written: what is cheap to find wrong comes before what takes minutes.
 .NOTPARALLEL:
-.PHONY: run check test lib clean kit layout machine header
+.PHONY: run check test bench lib clean kit layout machine header
 
 run: build/host/root
 	@$(X86) run $< $(if $(NUMBER),"$(NUMBER)")
@@ -20,6 +25,9 @@ check: layout test
 
 test: machine header $(TESTS)
 	@for test in $(TESTS); do $(X86) run "$$test" || exit 1; done
+
+bench: machine $(BENCH:%=build/bench/%)
+	@sh bench/run.sh $(BENCH)
 
 # Always asked of rt, which alone knows by content what target/ has proved already. rt ci removes
 # target/ and proves all anew, so a copy stays in build/ for the hosts.
@@ -47,3 +55,7 @@ header:
 build/%: %.c include/kelubashi.h machine lib
 	@mkdir -p $(@D)
 	@$(X86) compile $(STRICT) -Iinclude -o $@ $< build/libkelubashi.a -lm
+
+build/bench/%: bench/row_%.c $(BESIDE) $(wildcard bench/*.h) include/kelubashi.h machine lib
+	@mkdir -p $(@D)
+	@$(X86) compile $(STRICT) -Iinclude -o $@ $< $(BESIDE) build/libkelubashi.a -lm

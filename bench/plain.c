@@ -1,0 +1,152 @@
+/*
+**  The call in plain C: initial figures, refusals, results and partials.
+**
+**  Refusal 8 has two halves, zero divisors and figures that are not finite. Each zero divisor leaves an
+**  infinity or a NaN in a figure of the answer or of the partials, so the second half is tested alone.
+*/
+#include "plain.h"
+#include "plain_parts.h"
+
+/* A figure that is finite less itself is 0, and any other is a NaN: one test for all of them. */
+static inline int all_finite(const double *figures, int count)
+{
+    double none = 0;
+    int i;
+
+    for (i = 0; i < count; i++)
+        none += figures[i] - figures[i];
+    return none == 0;
+}
+
+/* r0, sigma0, alpha and H of eight finite doubles: mu, position, velocity, tau. Refusal 3 or 4, or 0. */
+static uint64_t begin(const double *eight, struct orbit *o)
+{
+    double sum = dot(eight + 1, eight + 1), v2, quotient;
+    uint64_t root;
+
+    if (sum == 0)
+        return 3;
+    if (!isfinite(sum))
+        return 4;
+    plain_root(word_of(sum), &root, 1);
+    o->mu = eight[0];
+    o->tau = eight[7];
+    o->r0 = figure_of(root);
+    o->sigma0 = dot(eight + 1, eight + 4);
+    v2 = dot(eight + 4, eight + 4);
+    quotient = 2 * o->mu / o->r0;
+    o->alpha = v2 - quotient;
+    o->h = fabs(o->tau) / o->r0 * (1.0 / 1048576);
+
+    /* a v2 or a quotient that is not finite leaves no finite alpha */
+    return isfinite(o->sigma0) && isfinite(o->alpha) && isfinite(o->h) ? 0 : 4;
+}
+
+/* The sum of four terms that all partials have, from its A times p or w. */
+static inline double sum_of(double ap, double bp, double cw, double dw, double q, double u)
+{
+    return (ap * q + bp * u) + (cw * q + dw * u);
+}
+
+/* The 36, row by row: position then velocity, columns likewise. */
+static void partials_of(const struct orbit *o, const double *eight, const struct sums *s, const struct arc *a,
+                        const double *figures, double *run)
+{
+    double mu = o->mu, r0 = o->r0, r = a->r, f = a->f, g = a->g, fd = a->fd, gd = a->gd, s1 = s->s1, s2 = s->s2;
+    double psi = figures[12], fifth = psi * psi * psi * psi * psi;
+    double u5 = s2 * o->tau + mu * (s->c.c4 - 3 * s->c.c5) * fifth;
+    double a11 = (s->c.c0 / (r * r0) + 1 / (r0 * r0) + 1 / (r * r)) * fd - mu * mu * u5 / (a->r_cube * a->r0_cube);
+    double a12 = (fd * s1 + (gd - 1) / r) / r;
+    double a13 = (gd - 1) * s1 / r - mu * u5 / a->r_cube;
+    double a21 = -((fd * s1 + (f - 1) / r0) / r0);
+    double a22 = -(fd * s2);
+    double a23 = -((gd - 1) * s2);
+    double a31 = (f - 1) * s1 / r0 - mu * u5 / a->r0_cube;
+    double a32 = (f - 1) * s2;
+    double a33 = g * s2 - u5;
+    int i, j;
+
+    for (i = 0; i < 3; i++) {
+        double p = figures[i], w = figures[3 + i], *row = run + 6 * i;
+        for (j = 0; j < 3; j++) {
+            double q = eight[1 + j], u = eight[4 + j], like = i == j;
+            row[j] = f * like + sum_of(a21 * p, a22 * p, a31 * w, a32 * w, q, u);
+            row[j + 3] = g * like + sum_of(a22 * p, a23 * p, a32 * w, a33 * w, q, u);
+            row[j + 18] = fd * like - sum_of(a11 * p, a12 * p, a21 * w, a22 * w, q, u);
+            row[j + 21] = gd * like - sum_of(a12 * p, a13 * p, a22 * w, a23 * w, q, u);
+        }
+    }
+}
+
+/* A refusal carries its points, and +0 for every figure. */
+static uint64_t refused(uint64_t number, uint64_t points, uint64_t *answer)
+{
+    memset(answer, 0, 15 * sizeof *answer);
+    answer[0] = number;
+    answer[1] = points;
+    return number;
+}
+
+/* The call from refusal 2 on; no partials are asked for where the run is null. */
+static inline uint64_t call(const uint64_t *words, uint64_t *answer, uint64_t *run)
+{
+    double eight[8], figures[13], partials[36];
+    struct orbit o;
+    struct found found;
+    struct sums s;
+    struct arc a;
+    uint64_t number;
+    int i;
+
+    memcpy(eight, words, sizeof eight);
+    if (!all_finite(eight, 8))
+        return refused(2, 0, answer);
+    number = begin(eight, &o);
+    if (number != 0)
+        return refused(number, 0, answer);
+    found = plain_search(&o);
+    if (found.refusal != 0)
+        return refused(found.refusal, found.points, answer);
+    s = sums_of(found.psi, o.alpha * (found.psi * found.psi));
+    a = arc_of(&o, &s);
+    if (!(a.r > 0))
+        return refused(7, found.points, answer);
+    figures_of(eight, &a, found.psi, figures);
+    if (!all_finite(figures, 13))
+        return refused(8, found.points, answer);
+    if (run != NULL) {
+        partials_of(&o, eight, &s, &a, figures, partials);
+        if (!all_finite(partials, 36))
+            return refused(8, found.points, answer);
+        memcpy(run, partials, sizeof partials);
+    }
+    answer[0] = 0;
+    answer[1] = found.points;
+    for (i = 0; i < 13; i++)
+        answer[2 + i] = word_of(figures[i]);
+    return 0;
+}
+
+uint64_t plain_propagate(uint64_t mu, uint64_t x, uint64_t y, uint64_t z,
+                         uint64_t vx, uint64_t vy, uint64_t vz, uint64_t tau,
+                         uint64_t *answer, size_t n)
+{
+    uint64_t words[8] = { mu, x, y, z, vx, vy, vz, tau };
+
+    if (n != 15)
+        return 60;
+    return call(words, answer, NULL);
+}
+
+uint64_t plain_partials(uint64_t mu, uint64_t x, uint64_t y, uint64_t z,
+                        uint64_t vx, uint64_t vy, uint64_t vz, uint64_t tau,
+                        uint64_t *answer, size_t n, uint64_t *run, size_t k)
+{
+    uint64_t words[8] = { mu, x, y, z, vx, vy, vz, tau };
+
+    if (n != 15)
+        return 60;
+    if (k != 36)
+        return refused(1, 0, answer);
+    return call(words, answer, run);
+}

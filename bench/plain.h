@@ -1,0 +1,33 @@
+/*
+**  plain.h: the library's calls again, in plain C of the same rules (document 01), for measuring beside it.
+**
+**  Arguments, answers and refusals are those of kelubashi.h, word for word; only the names differ.
+*/
+#ifndef PLAIN_H
+#define PLAIN_H
+
+#include <stddef.h>
+#include <stdint.h>
+
+uint64_t plain_root(uint64_t word, uint64_t *answer, size_t n);
+
+uint64_t plain_propagate(uint64_t mu, uint64_t x, uint64_t y, uint64_t z,
+                         uint64_t vx, uint64_t vy, uint64_t vz, uint64_t tau,
+                         uint64_t *answer, size_t n);
+
+uint64_t plain_partials(uint64_t mu, uint64_t x, uint64_t y, uint64_t z,
+                        uint64_t vx, uint64_t vy, uint64_t vz, uint64_t tau,
+                        uint64_t *answer, size_t n, uint64_t *run, size_t k);
+
+/* The same root by the processor's own instruction: what a host could use where its processor is to be trusted. */
+uint64_t processor_root(uint64_t word, uint64_t *answer, size_t n);
+
+/*
+**  The old way: Newton's steps from a first guess, and no promise about where they end. It refuses
+**  nothing; the answer's second word has the steps taken, 50 of them where they did not settle.
+*/
+uint64_t newton_propagate(uint64_t mu, uint64_t x, uint64_t y, uint64_t z,
+                          uint64_t vx, uint64_t vy, uint64_t vz, uint64_t tau,
+                          uint64_t *answer, size_t n);
+
+#endif

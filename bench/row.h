@@ -1,0 +1,36 @@
+/*
+**  row.h: what the programs of the table's rows share. Each measures one call over a fixed set.
+**
+**     PROGRAM check            see that library and plain C answer alike; print what the set is
+**     PROGRAM calls            print how many calls one pass over the set makes
+**     PROGRAM COLUMN PASSES    make so many passes, to be counted from outside
+**     PROGRAM COLUMN           print the time of one call in nanoseconds
+*/
+#ifndef ROW_H
+#define ROW_H
+
+#include <stddef.h>
+#include <stdint.h>
+
+struct row {
+    const char *const *columns;       /* their names, then NULL */
+    size_t calls;                     /* of one pass over the set */
+    void (*pass)(size_t column);
+    void (*check)(void);
+};
+
+int row_run(const struct row *row, int count, char **words);
+
+/* Ends the program: a set that is not answered alike is not worth measuring. */
+void row_differs(const char *what, size_t number);
+
+/* Calls that do nothing, for what a pass costs besides the calls it makes. */
+uint64_t empty_root(uint64_t word, uint64_t *answer, size_t n);
+uint64_t empty_propagate(uint64_t mu, uint64_t x, uint64_t y, uint64_t z,
+                         uint64_t vx, uint64_t vy, uint64_t vz, uint64_t tau,
+                         uint64_t *answer, size_t n);
+uint64_t empty_partials(uint64_t mu, uint64_t x, uint64_t y, uint64_t z,
+                        uint64_t vx, uint64_t vy, uint64_t vz, uint64_t tau,
+                        uint64_t *answer, size_t n, uint64_t *run, size_t k);
+
+#endif

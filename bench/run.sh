@@ -1,0 +1,127 @@
+#!/bin/sh
+# Prints the table of the rows given (root, propagate, partials), whose programs are in build/bench/.
+#
+# Instructions are counted under the emulator on every machine, so that all count alike. Time is measured
+# on x86-64 alone: under an emulator it says nothing of a station's machine.
+set -eu
+
+here=$(dirname "$0")
+build=$here/../build
+x86=$here/../tests/machine.sh
+plugin=$build/bench/count.so
+machine=$(uname -m)
+
+fail() {
+    echo "bench: $1" >&2
+    exit 1
+}
+
+run() {
+    sh "$x86" run "$@"
+}
+
+emulated() {
+    if [ "$machine" = x86_64 ]; then
+        qemu-x86_64 "$@"
+    else
+        run "$@"
+    fi
+}
+
+# One instruction a block: QEMU 7.2 tells a length one too great of a block that ends where an instruction lies across two
+# pages, and the count would change with the place of the code. The variable changed its name in QEMU 8.1.
+export QEMU_SINGLESTEP=1 QEMU_ONE_INSN_PER_TB=1
+
+# PROGRAM WORD..: how many instructions it takes, which the plugin tells on standard error.
+by_plugin() {
+    (
+        export QEMU_PLUGIN="$plugin"
+        emulated "$@" >/dev/null
+    ) 2>&1
+}
+
+# The same from the emulator's log of every block.
+by_log() {
+    (
+        export QEMU_LOG=exec,nochain
+        emulated "$@" 2>&1 >/dev/null
+    ) | grep -c '^Trace'
+}
+
+# Whether the way to count gives a number.
+counts() {
+    case $("$1" "$build/trial") in
+    '' | 0 | *[!0-9]*) return 1 ;;
+    esac
+}
+
+# For this machine and not for x86-64: the emulator loads it into itself.
+compile_plugin() {
+    cc -std=c99 -Wall -Wextra -pedantic -Werror -O2 -shared -fPIC -o "$plugin" "$here/count.c"
+}
+
+# An emulator that is linked statically takes no plugin, as Debian's from release 13 on; its log says the same, more slowly.
+choose() {
+    command -v qemu-x86_64 >/dev/null || fail 'no emulator to count with; as root on Debian: apt-get install qemu-user'
+    count=by_plugin passes=20
+    if command -v cc >/dev/null && compile_plugin && counts by_plugin; then
+        return
+    fi
+    count=by_log passes=2
+    counts by_log || fail 'this emulator counts neither with bench/count.c nor by its log: use QEMU 7.2, as in Debian 12'
+}
+
+# ROW COLUMN: instructions of all calls of a pass; what is the same in two runs, the start, falls out.
+instructions_of() {
+    once=$("$count" "$build/bench/$1" "$2" "$passes")
+    twice=$("$count" "$build/bench/$1" "$2" $((2 * passes)))
+    echo $(((twice - once) / passes))
+}
+
+nanoseconds_of() {
+    run "$build/bench/$1" "$2"
+}
+
+# MEASURE ROW COLUMN: per call, without what the pass itself takes.
+per_call() {
+    whole=$("$1" "$2" "$3")
+    bare=$("$1" "$2" empty)
+    calls=1
+    if [ "$1" = instructions_of ]; then
+        calls=$(run "$build/bench/$2" calls)
+    fi
+    echo "$whole $bare $calls" | awk '{ printf "%.0f", ($1 - $2) / $3 }'
+}
+
+# What stands beside a row's two columns.
+beside() {
+    case $2 in
+    root) echo "by the processor: $(per_call "$1" root processor)" ;;
+    propagate) echo "by Newton, no promise: $(per_call "$1" propagate newton)" ;;
+    esac
+}
+
+# MEASURE TITLE ROW..
+table() {
+    measure=$1
+    echo
+    echo "| $2 | library | plain C | ratio | beside |"
+    echo '|---|---:|---:|---:|---|'
+    shift 2
+    for row in "$@"; do
+        library=$(per_call "$measure" "$row" library)
+        plain=$(per_call "$measure" "$row" plain)
+        ratio=$(echo "$library $plain" | awk '{ printf "%.3f", $1 / $2 }')
+        echo "| $row | $library | $plain | $ratio | $(beside "$measure" "$row") |"
+    done
+}
+
+choose
+for row in "$@"; do
+    [ -x "$build/bench/$row" ] || fail "there is no build/bench/$row: make bench builds it"
+    run "$build/bench/$row" check
+done
+table instructions_of 'instructions per call' "$@"
+if [ "$machine" = x86_64 ]; then
+    table nanoseconds_of 'nanoseconds per call' "$@"
+fi
