@@ -10,7 +10,7 @@ STRICT = -std=c99 -Wall -Wextra -pedantic -Werror -O2 -ffp-contract=off
 TESTS = build/tests/root
 
 # The table's rows: root propagate partials, as far as the library has the calls.
-BENCH = root
+BENCH = root propagate partials
 BESIDE = bench/plain.c bench/plain_root.c bench/plain_search.c bench/newton.c bench/orbits.c bench/empty.c bench/row.c
 
 # One step at a time, in the order written: what is cheap to find wrong comes before what takes minutes.
