@@ -1,0 +1,33 @@
+-- Any two answers that the promise of a public function allows are equal: each promise names its answer.
+use mathlib.Core.Path.{refl, sym, _∙_}
+use Rattle.bits.specs.OneAnswer.{OneAnswer}
+use Rattle.states.proofs.words.is_finite_word.Kinds as is-finite-word-kinds
+use Rattle.states.proofs.words.is_finite_word.Reads as is-finite-word-reads
+use Rattle.states.proofs.words.first_not_finite.Kinds as first-not-finite-kinds
+use Rattle.states.proofs.words.first_not_finite.Reads as first-not-finite-reads
+use Rattle.states.proofs.words.orbit_of.Kinds as orbit-of-kinds
+use Rattle.states.proofs.words.orbit_of.Reads as orbit-of-reads
+use Rattle.states.proofs.initial.initial_of.Kinds as initial-of-kinds
+use Rattle.states.proofs.initial.initial_of.Reads as initial-of-reads
+use Rattle.states.proofs.initial.first_step.Kinds as first-step-kinds
+use Rattle.states.proofs.initial.first_step.Reads as first-step-reads
+use Rattle.states.proofs.initial.step_refusal.Kinds as step-refusal-kinds
+use Rattle.states.proofs.initial.step_refusal.Reads as step-refusal-reads
+
+pub is-finite-word : OneAnswer 0 is-finite-word-kinds.ps is-finite-word-kinds.r is-finite-word-reads.Post
+is-finite-word κs a x y v w p q = (p ∙ sym q, refl)
+
+pub first-not-finite : OneAnswer 0 first-not-finite-kinds.ps first-not-finite-kinds.r first-not-finite-reads.Post
+first-not-finite κs a x y v w p q = (p ∙ sym q, refl)
+
+pub orbit-of : OneAnswer 0 orbit-of-kinds.ps orbit-of-kinds.r orbit-of-reads.Post
+orbit-of κs a x y v w p q = (p ∙ sym q, refl)
+
+pub initial-of : OneAnswer 0 initial-of-kinds.ps initial-of-kinds.r initial-of-reads.Post
+initial-of κs a x y v w p q = (p ∙ sym q, refl)
+
+pub first-step : OneAnswer 0 first-step-kinds.ps first-step-kinds.r first-step-reads.Post
+first-step κs a x y v w p q = (p ∙ sym q, refl)
+
+pub step-refusal : OneAnswer 0 step-refusal-kinds.ps step-refusal-kinds.r step-refusal-reads.Post
+step-refusal κs a x y v w p q = (p ∙ sym q, refl)
