@@ -34,13 +34,14 @@ pub fn initial_of(mu: f64, state: State) -> Begun
     let v2 = product(velocity, velocity);
     let quotient = (2.0 * mu) / r0;
     let alpha = v2 - quotient;
+    let initial = Initial {
+        mu,
+        r0,
+        sigma0,
+        alpha,
+    };
     if all_finite(&[sum, sigma0, v2, quotient, alpha]) {
-        return Begun::Initial(Initial {
-            mu,
-            r0,
-            sigma0,
-            alpha,
-        });
+        return Begun::Initial(initial);
     }
     Begun::Refused(4)
 }
