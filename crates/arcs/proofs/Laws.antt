@@ -1,14 +1,12 @@
 -- What `ended` leaves open, for the call above it.
-use mathlib.Core.Path.{_≡_, refl, sym, _∙_}
+use mathlib.Core.Path.{_≡_, refl}
 use mathlib.Core.Bool.{Bool, true, false}
 use mathlib.Core.Logic.{_⊎_, inl, inr}
-use Prim.Native.Nat.{ℕ}
-use native.Mathlib.Omega.{arith}
 use lib.Ieee.{lt}
 use Rattle.bits.specs.Choice.{pick}
 use Rattle.bits.specs.Arithmetic.{n0}
 use Rattle.arcs.specs.Finite.{allFinite, anyZero}
-use Rattle.arcs.specs.Results.{resultsOf, divisorsOf, figuresOf, endedOf, endedRefusal}
+use Rattle.arcs.specs.Results.{resultsOf, divisorsOf, figuresOf, endedOf}
 use Rattle.arcs.specs.declared.figures.Arc.{Arc}
 use Rattle.arcs.specs.declared.figures.Ended.the-variants as ended
 

@@ -22,7 +22,7 @@ use Rattle.arcs.specs.Finite.{allFinite}
 use Rattle.arcs.specs.declared.figures.State.{State}
 use Rattle.arcs.proofs.FiniteLaws.{each-finite}
 use Rattle.states.specs.Words.{firstNotFinite, number, orbit, readOf, readRefusal}
-use Rattle.states.specs.Initial.{dot, begunFrom, begunOf}
+use Rattle.states.specs.Initial.{dot, begunOf}
 use Rattle.states.specs.declared.figures.Begun.the-variants as begun
 use Rattle.states.specs.declared.figures.Read.the-variants as read
 use Rattle.states.proofs.WordLaws.{each-word-finite}

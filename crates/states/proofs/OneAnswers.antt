@@ -1,8 +1,6 @@
 -- Any two answers that the promise of a public function allows are equal: each promise names its answer.
 use mathlib.Core.Path.{refl, sym, _∙_}
 use Rattle.bits.specs.OneAnswer.{OneAnswer}
-use Rattle.states.proofs.words.is_finite_word.Kinds as is-finite-word-kinds
-use Rattle.states.proofs.words.is_finite_word.Reads as is-finite-word-reads
 use Rattle.states.proofs.words.first_not_finite.Kinds as first-not-finite-kinds
 use Rattle.states.proofs.words.first_not_finite.Reads as first-not-finite-reads
 use Rattle.states.proofs.words.orbit_of.Kinds as orbit-of-kinds
@@ -13,9 +11,6 @@ use Rattle.states.proofs.initial.first_step.Kinds as first-step-kinds
 use Rattle.states.proofs.initial.first_step.Reads as first-step-reads
 use Rattle.states.proofs.initial.step_refusal.Kinds as step-refusal-kinds
 use Rattle.states.proofs.initial.step_refusal.Reads as step-refusal-reads
-
-pub is-finite-word : OneAnswer 0 is-finite-word-kinds.ps is-finite-word-kinds.r is-finite-word-reads.Post
-is-finite-word κs a x y v w p q = (p ∙ sym q, refl)
 
 pub first-not-finite : OneAnswer 0 first-not-finite-kinds.ps first-not-finite-kinds.r first-not-finite-reads.Post
 first-not-finite κs a x y v w p q = (p ∙ sym q, refl)

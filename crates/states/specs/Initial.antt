@@ -1,10 +1,11 @@
 -- Document 01, "Initial figures and series (document 003, 3.4)", up to H, with refusals 3 and 4. The state and τ may be any doubles.
-use mathlib.Core.Bool.{Bool}
-use mathlib.Core.List.{List, [], _∷_}
-use Prim.Native.Nat.{ℕ}
-use lib.Ieee.{Float, binary64, eq, ofBits}
+use mathlib.Core.Path.{_≡_, refl}
+use mathlib.Core.List.{[], _∷_}
+use Prim.Native.Nat.{ℕ, _^_}
+use lib.IntN.{pos}
+use lib.Ieee.{Float, binary64, div, eq, ofBits, ofInt}
 use Rattle.bits.specs.Choice.{pick}
-use Rattle.bits.specs.Arithmetic.{_⊕_, _⊖_, _⊗_, _⊘_, n0, n2, isFinite, magnitude}
+use Rattle.bits.specs.Arithmetic.{_⊕_, _⊖_, _⊗_, _⊘_, n0, n1, n2, isFinite, magnitude}
 use Rattle.bits.specs.Root.{rootOf}
 use Rattle.series.specs.declared.figures.Seconds.{Seconds}
 use Rattle.search.specs.declared.figures.Initial.{Initial}
@@ -42,6 +43,10 @@ begunRefusal (begun.Refused n) = n
 -- "2^−20"
 abbrev pub twoToMinus20 : Float
 twoToMinus20 = ofBits binary64 0x3eb0000000000000
+
+its-inverse : twoToMinus20 ≡ n1 ⊘ ofInt binary64 (pos (2 ^ 20))
+unfolding ofBits ofInt div
+its-inverse = refl
 
 -- "H = (|τ|/r0)·2^−20"
 unfoldable pub firstStepOf : Initial → Seconds → Float
