@@ -40,11 +40,18 @@ named = refl
 -- μ = 1, position (1, 0.25, -0.5), velocity (0.125, 1, 0.5), τ = 1.5: r0, σ0, α and H.
 an-orbit : List ℕ
 an-orbit =
-    0x3ff0000000000000 ∷ 0x3ff0000000000000 ∷ 0x3fd0000000000000 ∷ 0xbfe0000000000000 ∷ 0x3fc0000000000000 ∷ 0x3ff0000000000000 ∷ 0x3fe0000000000000 ∷ 0x3ff8000000000000
+    0x3ff0000000000000 ∷ 0x3ff0000000000000 ∷ 0x3fd0000000000000 ∷ 0xbfe0000000000000
+    ∷ 0x3fc0000000000000 ∷ 0x3ff0000000000000 ∷ 0x3fe0000000000000 ∷ 0x3ff8000000000000
     ∷ []
 
 its-initial : Initial
-its-initial = record { mu = ofBits binary64 0x3ff0000000000000; r0 = ofBits binary64 0x3ff2548eb9151e85; sigma0 = ofBits binary64 0x3fc0000000000000; alpha = ofBits binary64 0xbfdeba415bee70e4 }
+its-initial =
+    record {
+      mu = ofBits binary64 0x3ff0000000000000;
+      r0 = ofBits binary64 0x3ff2548eb9151e85;
+      sigma0 = ofBits binary64 0x3fc0000000000000;
+      alpha = ofBits binary64 0xbfdeba415bee70e4;
+    }
 
 figures :
     (readOf an-orbit ≡ read.Orbit (orbit an-orbit))

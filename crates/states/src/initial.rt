@@ -11,14 +11,17 @@ use bits::words::SIGN;
 use search::figures::Initial;
 use series::Seconds;
 
-// a·b, from the left.
+// 2^-20.
+const FIRST_STEP: f64 = 0.00000095367431640625;
+
+// a.x·b.x + a.y·b.y + a.z·b.z, from the left.
 fn product(a: Vector, b: Vector) -> f64
     ensures { λ r. ⌜ r ≡ dot a b ⌝ }
 {
     a.x * b.x + a.y * b.y + a.z * b.z
 }
 
-// r0, sigma0 and alpha of a state under mu, kept beside mu; refusal 3 or 4 where they are not to be had. They do not depend on the interval.
+// r0 (km), sigma0 (km^2/s) and alpha (km^2/s^2) of a state, beside its mu; refusal 3, then 4. H, which is the interval's, stands apart: see `first_step`.
 pub fn initial_of(mu: f64, state: State) -> Begun
     ensures { λ r. ⌜ r ≡ begunOf mu state ⌝ }
 {
@@ -60,7 +63,7 @@ fn magnitude_of(x: f64) -> f64
 pub fn first_step(initial: Initial, tau: Seconds) -> f64
     ensures { λ r. ⌜ r ≡ firstStepOf initial tau ⌝ }
 {
-    (magnitude_of(tau.0) / initial.r0) * 0.00000095367431640625
+    (magnitude_of(tau.0) / initial.r0) * FIRST_STEP
 }
 
 // Refusal 4 where H is not finite, else 0.
