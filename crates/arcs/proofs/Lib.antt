@@ -1,2 +1,4 @@
--- The laws of this layer.
+-- The laws of this crate: read Laws.antt and OneAnswers.antt. FiniteLaws.antt serves proofs, of the crates above too.
 pub mod FiniteLaws
+pub mod Laws
+pub mod OneAnswers

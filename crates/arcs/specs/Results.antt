@@ -1,13 +1,11 @@
 -- Document 01, "Results and partials", its first paragraph, with refusals 7 and 8.
-use mathlib.Core.Bool.{Bool}
-use mathlib.Core.List.{List, [], _∷_}
+use mathlib.Core.List.{List, [], _∷_, _++_}
 use Prim.Native.Nat.{ℕ}
 use lib.Ieee.{Float, lt, neg}
 use Rattle.bits.specs.Choice.{pick}
 use Rattle.bits.specs.Arithmetic.{_⊕_, _⊖_, _⊗_, _⊘_, n0, n1}
 use Rattle.series.specs.Series.{coefficientsOf, sumsOf}
 use Rattle.series.specs.declared.figures.Anomaly.{Anomaly}
-use Rattle.series.specs.declared.figures.Coefficients.{Coefficients}
 use Rattle.series.specs.declared.figures.Seconds.{Seconds}
 use Rattle.series.specs.declared.figures.Sums.{Sums}
 use Rattle.search.specs.Residual.{radiusOf}
@@ -44,15 +42,13 @@ endOf k s =
     }
 
 -- All of this at the found ψ, with its c0 to c5, its s1 to s3 and its r.
-abbrev pub arcFrom : Initial → Seconds → Anomaly → State → Coefficients → Sums → (r : Float) → Factors → Arc
-arcFrom i tau psi start c s r k = record { initial = i; tau = tau; psi = psi; c = c; s = s; r = r; factors = k; start = start; end = endOf k start }
-
 unfoldable pub arcOf : Initial → Seconds → Anomaly → State → Arc
 arcOf i tau psi start =
     let c = coefficientsOf (i .alpha) psi in
     let s = sumsOf psi c in
     let r = radiusOf i (c .c0) (s .s1) (s .s2) in
-    arcFrom i tau psi start c s r (factorsOf i tau s r)
+    let k = factorsOf i tau s r in
+    record { initial = i; tau = tau; psi = psi; c = c; s = s; r = r; factors = k; start = start; end = endOf k start }
 
 -- "Acceleration is ((−μ)·x)/((r·r)·r) with the position and radius of its own time."
 unfoldable pub accelerationOf : (mu r : Float) → Vector → Vector
@@ -77,19 +73,19 @@ unfoldable pub divisorsOf : (r0 r : Float) → List Float
 divisorsOf r0 r = r0 ∷ (r ⊗ r0) ∷ r ∷ ((r ⊗ r) ⊗ r) ∷ ((r0 ⊗ r0) ⊗ r0) ∷ []
 
 -- "A figure of the answer": position, velocity, both accelerations and ψ.
-abbrev pub components : Vector → List Float → List Float
-components v rest = v .x ∷ v .y ∷ v .z ∷ rest
+abbrev pub components : Vector → List Float
+components v = v .x ∷ v .y ∷ v .z ∷ []
 
 unfoldable pub figuresOf : Results → List Float
 figuresOf r =
     components (r .end .position)
-    (components (r .end .velocity)
-    (components (r .«end_acceleration»)
-    (components (r .«start_acceleration»)
-    (r .psi .0 ∷ []))))
+    ++ components (r .end .velocity)
+    ++ components (r .«end_acceleration»)
+    ++ components (r .«start_acceleration»)
+    ++ (r .psi .0 ∷ [])
 
 -- Refusal 7: "r at the found ψ isn't greater than zero". Refusal 8: "a divisor under Results and partials is zero, or a figure of the answer isn't finite",
--- without the partials' own (`partialsRefusal`).
+-- without the partials' own, which crate `partials` adds.
 unfoldable pub endedOf : Arc → Ended
 endedOf a =
     pick (lt n0 (a .r))

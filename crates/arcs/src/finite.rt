@@ -1,14 +1,7 @@
 // Whether figures are finite, and whether divisors are zero.
 ghost use mathlib.Core.Path.{_≡_};
-ghost use Rattle.bits.specs.Arithmetic.{isFinite};
 ghost use Rattle.arcs.specs.Finite.{allFinite, anyZero};
-
-// Whether x is neither a NaN nor an infinity.
-pub fn is_finite(x: f64) -> bool
-    ensures { λ r. ⌜ r ≡ isFinite x ⌝ }
-{
-    x < 1.0 / 0.0 && x > -(1.0 / 0.0)
-}
+use bits::words::is_finite;
 
 // Whether each of the figures is finite.
 pub fn all_finite(figures: &[f64]) -> bool

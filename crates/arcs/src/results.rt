@@ -1,6 +1,5 @@
 // The arc of a found anomaly, and its results.
 ghost use mathlib.Core.Path.{_≡_};
-ghost use mathlib.Core.List.{[], _∷_};
 ghost use Rattle.arcs.specs.Results.{factorsOf, endOf, arcOf, accelerationOf, resultsOf, divisorsOf, figuresOf, endedOf};
 use super::figures::Arc;
 use super::figures::Ended;

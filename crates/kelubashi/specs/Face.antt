@@ -5,9 +5,6 @@ use Prim.Native.Nat.{ℕ}
 use lib.Dec.{eqb}
 use lib.ListN.{length}
 use Rattle.bits.specs.Choice.{pick}
-use Rattle.arcs.specs.Results.{figuresOf}
-use Rattle.partials.specs.Partials.{wordsOf}
-use Rattle.states.specs.declared.figures.Answer.{Answer}
 
 -- What is returned, for an answer of n words and a run as it was handed in.
 abbrev pub returned : ℕ → List ℕ → ℕ → ℕ
@@ -24,7 +21,3 @@ lentBehind n run lent after = pick (eqb (length run) n) after lent
 -- The eight words of a call, in order.
 abbrev pub orbitWords : (mu x y z vx vy vz tau : ℕ) → List ℕ
 orbitWords mu x y z vx vy vz tau = mu ∷ x ∷ y ∷ z ∷ vx ∷ vy ∷ vz ∷ tau ∷ []
-
--- The answer's words: refusal, points, position, velocity, end acceleration, start acceleration, ψ. The first eleven are a result row.
-unfoldable pub answerWords : Answer → List ℕ
-answerWords a = a .refusal ∷ a .points ∷ wordsOf (figuresOf (a .results))

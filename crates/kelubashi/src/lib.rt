@@ -2,12 +2,9 @@
 // field; the names carry the interface's edition, so a header of another edition does not link.
 ghost use mathlib.Core.Path.{_≡_};
 ghost use lib.ListN.{length};
-ghost use Rattle.kelubashi.specs.Face.{returned, written, answerWords, orbitWords, lentBehind};
-use arcs::figures::Results;
-use bits::words::word_of;
-use states::figures::Answer;
+ghost use Rattle.kelubashi.specs.Face.{returned, written, orbitWords, lentBehind};
 ghost use Rattle.bits.specs.Root.{rootRefusalOf, rootWordOf};
-ghost use Rattle.states.specs.Call.{propagateOf, partialsOf, lentOf};
+ghost use Rattle.states.specs.Call.{answerWords, propagateOf, partialsOf, lentOf};
 ghost use mathlib.Core.List.{[], _∷_};
 
 // Writes an answer's words to a run of their length.
@@ -20,30 +17,6 @@ fn put(words: &[u64], run: &mut [u64])
         run[k] = words[k];
         k += 1;
     }
-}
-
-// The fifteen words of an answer: refusal, points, position, velocity, end acceleration, start acceleration, psi.
-fn answer_words(answer: Answer) -> [u64; 15]
-    ensures { λ r. ⌜ r ≡ answerWords answer ⌝ }
-{
-    let figures = answer.results;
-    [
-        answer.refusal,
-        answer.points,
-        word_of(figures.end.position.x),
-        word_of(figures.end.position.y),
-        word_of(figures.end.position.z),
-        word_of(figures.end.velocity.x),
-        word_of(figures.end.velocity.y),
-        word_of(figures.end.velocity.z),
-        word_of(figures.end_acceleration.x),
-        word_of(figures.end_acceleration.y),
-        word_of(figures.end_acceleration.z),
-        word_of(figures.start_acceleration.x),
-        word_of(figures.start_acceleration.y),
-        word_of(figures.start_acceleration.z),
-        word_of(figures.psi.0),
-    ]
 }
 
 // The square root of the double of a word, to an answer run of one word.
@@ -78,7 +51,7 @@ pub extern "C" fn kelubashi1_propagate(
         return 60;
     }
     let a = states::call::propagate([mu, x, y, z, vx, vy, vz, tau]);
-    let words = answer_words(a);
+    let words = states::answer::words_of(a);
     put(&words, answer);
     a.refusal
 }
@@ -103,7 +76,7 @@ pub extern "C" fn kelubashi1_partials(
         return 60;
     }
     let a = states::call::propagate_with_partials([mu, x, y, z, vx, vy, vz, tau], run);
-    let words = answer_words(a);
+    let words = states::answer::words_of(a);
     put(&words, answer);
     a.refusal
 }

@@ -1,12 +1,17 @@
 -- Document 01, "Results and partials": U and A11 to A33, and what they divide by.
+use mathlib.Core.Path.{refl}
 use mathlib.Core.List.{List, [], _∷_}
-use lib.Ieee.{Float, binary64, neg, ofBits}
-use Rattle.bits.specs.Arithmetic.{_⊕_, _⊖_, _⊗_, _⊘_, n1}
+use lib.Ieee.{Float, binary64, neg, ofBits, ofInt}
+use Rattle.bits.specs.Arithmetic.{_⊕_, _⊖_, _⊗_, _⊘_, n1, AreWhole}
 use Rattle.arcs.specs.declared.figures.Arc.{Arc}
 use Rattle.partials.specs.declared.matrix.Matrix.{Matrix}
 
 abbrev pub n3 : Float
 n3 = ofBits binary64 0x4008000000000000
+
+whole-number : AreWhole ((n3, 3) ∷ [])
+unfolding ofBits ofInt
+whole-number = (refl, tt)
 
 -- "U = s2·τ + (μ·(c4−3·c5))·((((ψ·ψ)·ψ)·ψ)·ψ)"
 unfoldable pub uOf : Arc → Float

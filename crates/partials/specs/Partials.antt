@@ -1,5 +1,5 @@
 -- Document 01: "The 36 partials go to a lent run", as words, with the partials' part of refusals 1 and 8.
-use mathlib.Core.List.{List, [], _∷_}
+use mathlib.Core.List.{List, map}
 use Prim.Native.Nat.{ℕ}
 use lib.Dec.{eqb}
 use lib.Ieee.{Float, binary64, toBits}
@@ -11,9 +11,8 @@ use Rattle.partials.specs.Matrix.{divisorsOf}
 use Rattle.partials.specs.Entries.{entriesOf}
 
 -- Their words, which the run is to hold.
-unfoldable pub wordsOf : List Float → List ℕ
-wordsOf [] = []
-wordsOf (x ∷ xs) = toBits binary64 x ∷ wordsOf xs
+abbrev pub wordsOf : List Float → List ℕ
+wordsOf xs = map (toBits binary64) xs
 
 -- Refusal 1: "the lent run isn't exactly 36 long". Refusal 8, of "the partials' own divisors and figures".
 unfoldable pub refusalOf : Arc → List ℕ → ℕ

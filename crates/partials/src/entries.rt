@@ -45,6 +45,7 @@ fn unit_of(i: usize, j: usize) -> f64
 fn entry(arc: Arc, a: Matrix, row: usize, column: usize) -> f64
     ensures { λ r. ⌜ r ≡ entryOf arc a row column ⌝ }
 {
+    let factors = arc.factors;
     let to = arc.end;
     let from = arc.start;
     let i = row % 3;
@@ -56,36 +57,14 @@ fn entry(arc: Arc, a: Matrix, row: usize, column: usize) -> f64
     let unit = unit_of(i, j);
     if row < 3 {
         if column < 3 {
-            return plus(arc.factors.f, unit, a.a21, a.a22, a.a31, a.a32, p, w, q, u);
+            return plus(factors.f, unit, a.a21, a.a22, a.a31, a.a32, p, w, q, u);
         }
-        return plus(arc.factors.g, unit, a.a22, a.a23, a.a32, a.a33, p, w, q, u);
+        return plus(factors.g, unit, a.a22, a.a23, a.a32, a.a33, p, w, q, u);
     }
     if column < 3 {
-        return minus(
-            arc.factors.fprime,
-            unit,
-            a.a11,
-            a.a12,
-            a.a21,
-            a.a22,
-            p,
-            w,
-            q,
-            u,
-        );
+        return minus(factors.fprime, unit, a.a11, a.a12, a.a21, a.a22, p, w, q, u);
     }
-    minus(
-        arc.factors.gprime,
-        unit,
-        a.a12,
-        a.a13,
-        a.a22,
-        a.a23,
-        p,
-        w,
-        q,
-        u,
-    )
+    minus(factors.gprime, unit, a.a12, a.a13, a.a22, a.a23, p, w, q, u)
 }
 
 // The 36 partials, row by row.

@@ -27,7 +27,8 @@ fn write_words(table: [f64; 36], run: &mut [u64])
 }
 
 // Writes the words of the 36 partials of an arc to the run, or none of them: refusal 1 where the run isn't exactly 36 long, 8 where a divisor of theirs is
-// zero or one of them isn't finite, else 0.
+// zero or one of them isn't finite, else 0. A partial of position by position and of velocity by velocity is a number, of position by velocity in s, of
+// velocity by position in 1/s.
 pub fn write_partials(arc: Arc, run: &mut [u64]) -> u64
     ensures { λ r. ⌜ (r ≡ refusalOf arc (now (run .entry))) × (now (run .exit) ≡ lentAfter arc (now (run .entry))) ⌝ }
 {

@@ -3,7 +3,7 @@ ghost use mathlib.Core.Path.{_≡_};
 ghost use Rattle.partials.specs.Matrix.{uOf, matrixOf, divisorsOf};
 use arcs::figures::Arc;
 
-// A11 to A33 of document 01.
+// A11 to A33 of document 01: A11 in 1/(km^2 s), A12 and A21 in 1/km^2, A13, A22 and A31 in s/km^2, A23 and A32 in s^2/km^2, A33 in s^3/km^2.
 pub struct Matrix {
     pub a11: f64,
     pub a12: f64,
@@ -16,7 +16,7 @@ pub struct Matrix {
     pub a33: f64,
 }
 
-// U.
+// U (s^3/km^2).
 pub fn u_of(arc: Arc) -> f64
     ensures { λ u. ⌜ u ≡ uOf arc ⌝ }
 {
@@ -25,7 +25,7 @@ pub fn u_of(arc: Arc) -> f64
         + (arc.initial.mu * (arc.c.c4 - 3.0 * arc.c.c5)) * ((((psi * psi) * psi) * psi) * psi)
 }
 
-// A11 to A33, of U.
+// A11 to A33, from U.
 pub fn matrix_of(arc: Arc, u: f64) -> Matrix
     ensures { λ a. ⌜ a ≡ matrixOf arc u ⌝ }
 {

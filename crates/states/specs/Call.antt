@@ -1,6 +1,6 @@
 -- Document 01, "Refusals in order of checking", for the two calls: "A refusal carries the trial points used so far (0 for 1 to 4 and 9), all other figures +0;
 -- lent memory keeps its bytes. The first that applies is given, and none otherwise."
-use mathlib.Core.List.{List}
+use mathlib.Core.List.{List, _∷_}
 use Prim.Native.Nat.{ℕ}
 use lib.Dec.{eqb}
 use lib.ListN.{length}
@@ -11,14 +11,14 @@ use Rattle.search.specs.Search.{searchOf}
 use Rattle.search.specs.declared.figures.Initial.{Initial}
 use Rattle.search.specs.declared.figures.Answer.{Answer as Found}
 use Rattle.search.specs.declared.figures.Answer.the-variants as found
-use Rattle.arcs.specs.Results.{arcOf, endedOf}
+use Rattle.arcs.specs.Results.{arcOf, figuresOf, endedOf}
 use Rattle.arcs.specs.declared.figures.Vector.{Vector}
 use Rattle.arcs.specs.declared.figures.State.{State}
 use Rattle.arcs.specs.declared.figures.Arc.{Arc}
 use Rattle.arcs.specs.declared.figures.Results.{Results}
 use Rattle.arcs.specs.declared.figures.Ended.{Ended}
 use Rattle.arcs.specs.declared.figures.Ended.the-variants as ended
-use Rattle.partials.specs.Partials.{refusalOf, lentAfter}
+use Rattle.partials.specs.Partials.{wordsOf, refusalOf, lentAfter}
 use Rattle.states.specs.Words.{readOf}
 use Rattle.states.specs.Initial.{begunOf, firstStepOf}
 use Rattle.states.specs.declared.figures.Orbit.{Orbit}
@@ -116,3 +116,7 @@ partialsOf words run = pick (eqb (length run) 36) (partialsBy (reachedOf words) 
 
 unfoldable pub lentOf : List ℕ → List ℕ → List ℕ
 lentOf words run = pick (eqb (length run) 36) (lentBy (reachedOf words) run) run
+
+-- ---- An answer as words: refusal, points, position, velocity, end acceleration, start acceleration, ψ.
+unfoldable pub answerWords : Answer → List ℕ
+answerWords a = a .refusal ∷ a .points ∷ wordsOf (figuresOf (a .results))

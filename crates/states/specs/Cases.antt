@@ -8,7 +8,7 @@ use Rattle.bits.specs.Root.{rootWordOf, rootOf}
 use Rattle.search.specs.declared.figures.Initial.{Initial}
 use Rattle.arcs.specs.Finite.{allFinite}
 use Rattle.states.specs.Words.{firstNotFinite, orbit, readOf, readRefusal}
-use Rattle.states.specs.Initial.{dot, begunOf, begunRefusal, firstStepOf, stepRefusal}
+use Rattle.states.specs.Initial.{dot, begunOf, begunRefusal, firstStepOf}
 use Rattle.states.specs.declared.figures.Read.{Read}
 use Rattle.states.specs.declared.figures.Read.the-variants as read
 use Rattle.states.specs.declared.figures.Begun.the-variants as begun
@@ -40,16 +40,22 @@ named = refl
 -- μ = 1, position (1, 0.25, -0.5), velocity (0.125, 1, 0.5), τ = 1.5: r0, σ0, α and H.
 an-orbit : List ℕ
 an-orbit =
-    0x3ff0000000000000 ∷ 0x3ff0000000000000 ∷ 0x3fd0000000000000 ∷ 0xbfe0000000000000 ∷ 0x3fc0000000000000 ∷ 0x3ff0000000000000 ∷ 0x3fe0000000000000 ∷ 0x3ff8000000000000
+    0x3ff0000000000000 ∷ 0x3ff0000000000000 ∷ 0x3fd0000000000000 ∷ 0xbfe0000000000000
+    ∷ 0x3fc0000000000000 ∷ 0x3ff0000000000000 ∷ 0x3fe0000000000000 ∷ 0x3ff8000000000000
     ∷ []
 
 its-initial : Initial
-its-initial = record { mu = ofBits binary64 0x3ff0000000000000; r0 = ofBits binary64 0x3ff2548eb9151e85; sigma0 = ofBits binary64 0x3fc0000000000000; alpha = ofBits binary64 0xbfdeba415bee70e4 }
+its-initial =
+    record {
+      mu = ofBits binary64 0x3ff0000000000000;
+      r0 = ofBits binary64 0x3ff2548eb9151e85;
+      sigma0 = ofBits binary64 0x3fc0000000000000;
+      alpha = ofBits binary64 0xbfdeba415bee70e4;
+    }
 
 figures :
     (readOf an-orbit ≡ read.Orbit (orbit an-orbit))
     × (begunOf (orbit an-orbit .mu) (orbit an-orbit .state) ≡ begun.Initial its-initial)
     × (firstStepOf its-initial (orbit an-orbit .tau) ≡ ofBits binary64 0x3eb4f2ec413cb52b)
-    × (stepRefusal (ofBits binary64 0x3eb4f2ec413cb52b) ≡ 0)
-unfolding an-orbit its-initial firstNotFinite readOf dot begunOf allFinite firstStepOf stepRefusal rootWordOf rootOf add sub mul div eq ofBits toBits
-figures = (refl, refl, refl, refl)
+unfolding an-orbit its-initial firstNotFinite readOf dot begunOf allFinite firstStepOf rootWordOf rootOf add sub mul div eq ofBits toBits
+figures = (refl, refl, refl)

@@ -1,10 +1,11 @@
 -- Document 01, "Initial figures and series (document 003, 3.4)", up to H, with refusals 3 and 4. The state and τ may be any doubles.
-use mathlib.Core.Bool.{Bool}
-use mathlib.Core.List.{List, [], _∷_}
-use Prim.Native.Nat.{ℕ}
-use lib.Ieee.{Float, binary64, eq, ofBits}
+use mathlib.Core.Path.{_≡_, refl}
+use mathlib.Core.List.{[], _∷_}
+use Prim.Native.Nat.{ℕ, _^_}
+use lib.IntN.{pos}
+use lib.Ieee.{Float, binary64, div, eq, ofBits, ofInt}
 use Rattle.bits.specs.Choice.{pick}
-use Rattle.bits.specs.Arithmetic.{_⊕_, _⊖_, _⊗_, _⊘_, n0, n2, isFinite, magnitude}
+use Rattle.bits.specs.Arithmetic.{_⊕_, _⊖_, _⊗_, _⊘_, n0, n1, n2, magnitude}
 use Rattle.bits.specs.Root.{rootOf}
 use Rattle.series.specs.declared.figures.Seconds.{Seconds}
 use Rattle.search.specs.declared.figures.Initial.{Initial}
@@ -18,8 +19,8 @@ use Rattle.states.specs.declared.figures.Begun.the-variants as begun
 unfoldable pub dot : Vector → Vector → Float
 dot a b = (a .x ⊗ b .x ⊕ a .y ⊗ b .y) ⊕ a .z ⊗ b .z
 
--- "α = v² − (2·μ)/r0". Refusal 3: "(x·x+y·y)+z·z is zero". Refusal 4: "that sum, σ0, v², (2·μ)/r0, α or H below isn't finite"; H is the interval's, see
--- `stepRefusal`.
+-- "α = v² − (2·μ)/r0". Refusal 3: "(x·x+y·y)+z·z is zero". Refusal 4: "that sum, σ0, v², (2·μ)/r0, α or H below isn't finite"; H is the interval's,
+-- and refused where the interval is (Call.antt).
 abbrev pub begunFrom : (mu sum r0 sigma0 v2 : Float) → Begun
 begunFrom mu sum r0 sigma0 v2 =
     let quotient = (n2 ⊗ mu) ⊘ r0 in
@@ -43,10 +44,10 @@ begunRefusal (begun.Refused n) = n
 abbrev pub twoToMinus20 : Float
 twoToMinus20 = ofBits binary64 0x3eb0000000000000
 
+its-inverse : twoToMinus20 ≡ n1 ⊘ ofInt binary64 (pos (2 ^ 20))
+unfolding ofBits ofInt div
+its-inverse = refl
+
 -- "H = (|τ|/r0)·2^−20"
 unfoldable pub firstStepOf : Initial → Seconds → Float
 firstStepOf i tau = (magnitude (tau .0) ⊘ i .r0) ⊗ twoToMinus20
-
--- Refusal 4 by H.
-unfoldable pub stepRefusal : Float → ℕ
-stepRefusal h = pick (isFinite h) 0 4

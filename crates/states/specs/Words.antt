@@ -1,5 +1,4 @@
 -- Document 01: "Eight doubles come in: μ of any sign, x y z, vx vy vz, and the interval τ." They come as words, in this order.
-use mathlib.Core.Bool.{Bool}
 use mathlib.Core.List.{List, [], _∷_}
 use Prim.Native.Nat.{ℕ, _+_}
 use lib.Dec.{eqb}

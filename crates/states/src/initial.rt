@@ -1,24 +1,26 @@
 // The initial figures of a state, and the first step of the search.
 ghost use mathlib.Core.Path.{_≡_};
 ghost use Rattle.bits.specs.Arithmetic.{magnitude};
-ghost use Rattle.states.specs.Initial.{dot, begunOf, firstStepOf, stepRefusal};
+ghost use Rattle.states.specs.Initial.{dot, begunOf, firstStepOf};
 use super::figures::Begun;
 use arcs::figures::State;
 use arcs::figures::Vector;
 use arcs::finite::all_finite;
-use arcs::finite::is_finite;
 use bits::words::SIGN;
 use search::figures::Initial;
 use series::Seconds;
 
-// a·b, from the left.
+// 2^-20.
+const FIRST_STEP: f64 = 0.00000095367431640625;
+
+// a.x·b.x + a.y·b.y + a.z·b.z, from the left.
 fn product(a: Vector, b: Vector) -> f64
     ensures { λ r. ⌜ r ≡ dot a b ⌝ }
 {
     a.x * b.x + a.y * b.y + a.z * b.z
 }
 
-// r0, sigma0 and alpha of a state under mu, kept beside mu; refusal 3 or 4 where they are not to be had. They do not depend on the interval.
+// r0 (km), sigma0 (km^2/s) and alpha (km^2/s^2) of a state, beside its mu; refusal 3, then 4. H, which is the interval's, stands apart: see `first_step`.
 pub fn initial_of(mu: f64, state: State) -> Begun
     ensures { λ r. ⌜ r ≡ begunOf mu state ⌝ }
 {
@@ -34,13 +36,14 @@ pub fn initial_of(mu: f64, state: State) -> Begun
     let v2 = product(velocity, velocity);
     let quotient = (2.0 * mu) / r0;
     let alpha = v2 - quotient;
+    let initial = Initial {
+        mu,
+        r0,
+        sigma0,
+        alpha,
+    };
     if all_finite(&[sum, sigma0, v2, quotient, alpha]) {
-        return Begun::Initial(Initial {
-            mu,
-            r0,
-            sigma0,
-            alpha,
-        });
+        return Begun::Initial(initial);
     }
     Begun::Refused(4)
 }
@@ -59,12 +62,5 @@ fn magnitude_of(x: f64) -> f64
 pub fn first_step(initial: Initial, tau: Seconds) -> f64
     ensures { λ r. ⌜ r ≡ firstStepOf initial tau ⌝ }
 {
-    (magnitude_of(tau.0) / initial.r0) * 0.00000095367431640625
-}
-
-// Refusal 4 where H is not finite, else 0.
-pub fn step_refusal(h: f64) -> u64
-    ensures { λ r. ⌜ r ≡ stepRefusal h ⌝ }
-{
-    if is_finite(h) { 0 } else { 4 }
+    (magnitude_of(tau.0) / initial.r0) * FIRST_STEP
 }

@@ -1,4 +1,5 @@
 // Layer 4: the propagator's calls, from eight words to an answer (document 01, "Refusals in order of checking").
+pub mod answer;
 pub mod call;
 pub mod figures;
 pub mod initial;

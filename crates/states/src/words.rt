@@ -11,7 +11,7 @@ use bits::words::Kind;
 use series::Seconds;
 
 // Whether the double of a word is finite, by its exponent field: no double is made of it.
-pub fn is_finite_word(word: u64) -> bool
+fn is_finite_word(word: u64) -> bool
     ensures { λ r. ⌜ r ≡ isFinite (ofBits binary64 word) ⌝ }
 {
     match bits::words::kind_of(word) {

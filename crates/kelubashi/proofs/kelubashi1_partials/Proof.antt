@@ -1,8 +1,8 @@
 -- A run of another length is left as it was, and the lent run too; else the answer's words are written.
-use mathlib.Core.Path.{sym, _∙_, ap}
+use mathlib.Core.Path.{_∙_, ap}
 use borrow.Author.Needs.{needs}
 use Rattle.states.specs.declared.figures.Answer.{Answer}
-use Rattle.kelubashi.specs.Face.{answerWords}
+use Rattle.states.specs.Call.{answerWords}
 use Rattle.kelubashi.proofs.Face.{wrong-length, right-length, left-lent, made-lent}
 use Rattle.kelubashi.proofs.kelubashi1_partials.Statement.{statement}
 use Rattle.kelubashi.proofs.kelubashi1_partials.Tie as tie
@@ -16,8 +16,8 @@ returns c =
 propagate-with-partials-requires : tie.Need-propagate-with-partials-requires
 propagate-with-partials-requires c κs = search needs
 
-answer-words-requires : tie.Need-answer-words-requires
-answer-words-requires c κs = search needs
+words-of-requires : tie.Need-words-of-requires
+words-of-requires c κs = search needs
 
 slice-aggregate-put : tie.Need-slice-aggregate-put
 slice-aggregate-put c = search needs
@@ -36,7 +36,7 @@ returns-2 c =
     let e = c .before .before .before .before .before .before .before .before .propagate-with-partials .ensures in
     let run = c .before .before .before .before .before .before .before .before .before .before .before .before .before .args .answer .now in
     let same = c .before .before .before .before .before .before .before .before .before .before .if1 .left in
-    let w = right-length 15 run same (ap (λ (a : Answer). a .refusal) (e .0)) (c .before .before .put .ensures ∙ c .before .before .before .before .before .answer-words .ensures ∙ ap answerWords (e .0)) in
+    let w = right-length 15 run same (ap (λ (a : Answer). a .refusal) (e .0)) (c .before .before .put .ensures ∙ c .before .before .before .before .before .words-of .ensures ∙ ap answerWords (e .0)) in
     (w .0, w .1, made-lent 15 run _ same (e .1))
 
 pub kelubashi1-partials-spec : {M : Type 1} → statement M
@@ -45,7 +45,7 @@ kelubashi1-partials-spec =
     (tie.spec
     returns
     propagate-with-partials-requires
-    answer-words-requires
+    words-of-requires
     slice-aggregate-put
     put-requires
     same-length

@@ -1,8 +1,8 @@
 -- A run of another length is left as it was; else the answer's words are written.
-use mathlib.Core.Path.{sym, _∙_, ap}
+use mathlib.Core.Path.{_∙_, ap}
 use borrow.Author.Needs.{needs}
 use Rattle.states.specs.declared.figures.Answer.{Answer}
-use Rattle.kelubashi.specs.Face.{answerWords}
+use Rattle.states.specs.Call.{answerWords}
 use Rattle.kelubashi.proofs.Face.{wrong-length, right-length}
 use Rattle.kelubashi.proofs.kelubashi1_propagate.Statement.{statement}
 use Rattle.kelubashi.proofs.kelubashi1_propagate.Tie as tie
@@ -13,8 +13,8 @@ returns c = wrong-length 15 _ _ _ (c .if1 .taken)
 propagate-requires : tie.Need-propagate-requires
 propagate-requires c κs = search needs
 
-answer-words-requires : tie.Need-answer-words-requires
-answer-words-requires c κs = search needs
+words-of-requires : tie.Need-words-of-requires
+words-of-requires c κs = search needs
 
 slice-aggregate-put : tie.Need-slice-aggregate-put
 slice-aggregate-put c = search needs
@@ -29,7 +29,7 @@ returns-2 : tie.Need-returns-2
 returns-2 c =
     let p = c .before .before .before .before .before .before .propagate .ensures in
     right-length 15 (c .before .before .before .before .before .before .before .before .before .args .answer .now) (c .before .before .before .before .before .before .before .if1 .left) (ap (λ (a : Answer). a .refusal) p)
-    (c .before .before .put .ensures ∙ c .before .before .before .before .before .answer-words .ensures ∙ ap answerWords p)
+    (c .before .before .put .ensures ∙ c .before .before .before .before .before .words-of .ensures ∙ ap answerWords p)
 
 pub kelubashi1-propagate-spec : {M : Type 1} → statement M
 kelubashi1-propagate-spec =
@@ -37,7 +37,7 @@ kelubashi1-propagate-spec =
     (tie.spec
     returns
     propagate-requires
-    answer-words-requires
+    words-of-requires
     slice-aggregate-put
     put-requires
     same-length

@@ -1,15 +1,15 @@
 -- The words stored so far are the first of the table's; each entry is finite, so it has a word of its own.
-use mathlib.Core.Path.{_≡_, refl, sym, _∙_, ap}
+use mathlib.Core.Path.{_≡_, refl, sym, _∙_}
 use mathlib.Core.List.{List, [], _∷_, _++_}
-use Prim.Native.Nat.{ℕ, zero, suc, _+_, _-_, _<_, _≤_}
+use Prim.Native.Nat.{ℕ, _+_, _-_, _<_, _≤_}
 use native.Mathlib.Omega.{arith}
 use native.Mathlib.Numerals.{add-one}
 use borrow.Author.Needs.{needs}
-use lib.ListN.{length, getD, take, set, length-set}
+use lib.ListN.{length, getD, take, set, length-set, length-map, List·getD-map}
 use lib.Seq.{take-suc, take-suc-set, take-all}
 use lib.Ieee.{Float, nan, binary64, toBits}
-use Rattle.partials.specs.Partials.{wordsOf}
 use Rattle.arcs.proofs.FiniteLaws.{finite-number, each-finite}
+use Rattle.partials.specs.Partials.{wordsOf}
 use Rattle.partials.proofs.write_words.Statement.{statement}
 use Rattle.partials.proofs.write_words.Tie as tie
 
@@ -19,24 +19,14 @@ Inv-loop run₀ table k₀ run k = (length run ≡ 36) × (k ≤ 36) × (take k 
 abbrev μ-loop : tie.MeasureT-loop
 μ-loop run₀ table k₀ run k = 36 - k
 
-length-words : (t : List Float) → length (wordsOf t) ≡ length t
-unfolding wordsOf
-length-words [] = refl
-length-words (x ∷ t) = ap suc (length-words t)
-
-word-at : (t : List Float) (k : ℕ) → k < length t → getD (wordsOf t) k 0 ≡ toBits binary64 (getD t k nan)
-unfolding wordsOf
-word-at [] k h = absurd (omega arith)
-word-at (x ∷ t) zero h = refl
-word-at (x ∷ t) (suc k) h = word-at t k (omega arith)
-
 more : (run : List ℕ) (t : List Float) (k : ℕ) → k < length run → k < length t → take k run ≡ take k (wordsOf t)
     → take (k + 1) (set run k (toBits binary64 (getD t k nan))) ≡ take (k + 1) (wordsOf t)
 more run t k h l e =
+    let word = toBits binary64 in
     rw add-one
-    (take-suc-set run k (toBits binary64 (getD t k nan)) h
-    ∙ (λ i. e i ++ (sym (word-at t k l) i ∷ []))
-    ∙ sym (take-suc (wordsOf t) k 0 (omega (arith, length-words t))))
+    (take-suc-set run k (word (getD t k nan)) h
+    ∙ (λ i. e i ++ (sym (List·getD-map word t k nan) i ∷ []))
+    ∙ sym (take-suc (wordsOf t) k (word nan) (omega (arith, length-map t word))))
 
 loop-holds : tie.Need-loop-holds Inv-loop μ-loop
 loop-holds c = (c .pre .0, omega arith, refl)
@@ -67,7 +57,7 @@ loop-again c =
     let at = c .before .loop in (
       simp length-set (at .inv .0),
       omega arith,
-      more (at .run) _ (at .k) (omega arith) (omega arith) (at .inv .2),
+      more (at .run) (c .before .before .args .t1) (at .k) (omega arith) (omega arith) (at .inv .2),
     )
 
 same-length : tie.Need-same-length Inv-loop μ-loop
@@ -79,7 +69,7 @@ returns c =
     let t = c .before .before .args .t1 in
     let e : at .k ≡ 36 = omega (arith, at .inv .1) in
     let l : length t ≡ 36 = omega arith in
-    sym (take-all 36 (at .run) (omega (arith, at .inv .0))) ∙ (rw e at (at .inv .2)) ∙ take-all 36 (wordsOf t) (omega (arith, length-words t))
+    sym (take-all 36 (at .run) (omega (arith, at .inv .0))) ∙ (rw e at (at .inv .2)) ∙ take-all 36 (wordsOf t) (omega (arith, length-map t (toBits binary64)))
 
 pub write-words-spec : {M : Type 1} → statement M
 write-words-spec =

@@ -1,5 +1,5 @@
 -- The tests of the code are those of the definition, at the figures that the calls ensure.
-use mathlib.Core.Path.{_≡_, refl, sym, _∙_, ap}
+use mathlib.Core.Path.{_≡_, sym, _∙_, ap}
 use mathlib.Core.Bool.{Bool, true, false}
 use mathlib.Core.List.{[], _∷_}
 use borrow.Author.Needs.{needs}
@@ -10,7 +10,6 @@ use Rattle.bits.specs.Root.{rootOf}
 use Rattle.arcs.specs.Finite.{allFinite}
 use Rattle.states.specs.Initial.{dot, begunFrom, begunOf}
 use Rattle.arcs.specs.declared.figures.State.{State}
-use Rattle.states.specs.declared.figures.Begun.{Begun}
 use Rattle.states.specs.declared.figures.Begun.the-variants.{Initial, Refused}
 use Rattle.states.proofs.initial.initial_of.Statement.{statement}
 use Rattle.states.proofs.initial.initial_of.Tie as tie

@@ -1,5 +1,5 @@
 -- The eight are finite where the first that is not is number 8, so that a double can be made of each.
-use mathlib.Core.Path.{_≡_, refl, sym, _∙_}
+use mathlib.Core.Path.{_≡_}
 use mathlib.Core.Bool.{not}
 use mathlib.Core.List.{List}
 use Prim.Native.Nat.{ℕ, _<_}

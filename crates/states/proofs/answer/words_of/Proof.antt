@@ -2,10 +2,9 @@
 use mathlib.Core.List.{[], _∷_}
 use borrow.Author.Needs.{needs}
 use Rattle.arcs.specs.Results.{figuresOf}
-use Rattle.partials.specs.Partials.{wordsOf}
-use Rattle.kelubashi.specs.Face.{answerWords}
-use Rattle.kelubashi.proofs.answer_words.Statement.{statement}
-use Rattle.kelubashi.proofs.answer_words.Tie as tie
+use Rattle.states.specs.Call.{answerWords}
+use Rattle.states.proofs.answer.words_of.Statement.{statement}
+use Rattle.states.proofs.answer.words_of.Tie as tie
 
 word-of-requires : tie.Need-word-of-requires
 word-of-requires c κs = search needs
@@ -47,14 +46,14 @@ word-of-requires-13 : tie.Need-word-of-requires-13
 word-of-requires-13 c κs = search needs
 
 returns : tie.Need-returns
-unfolding answerWords wordsOf figuresOf
+unfolding answerWords figuresOf
 returns c =
     let a = c .before .before .before .before .before .before .before .before .before .before .before .before .before .before .args .answer in
     λ i. a .refusal ∷ a .points
     ∷ c .before .before .before .before .before .before .before .before .before .before .before .before .word-of .ensures i ∷ c .before .before .before .before .before .before .before .before .before .before .before .word-of2 .ensures i ∷ c .before .before .before .before .before .before .before .before .before .before .word-of3 .ensures i ∷ c .before .before .before .before .before .before .before .before .before .word-of4 .ensures i ∷ c .before .before .before .before .before .before .before .before .word-of5 .ensures i ∷ c .before .before .before .before .before .before .before .word-of6 .ensures i ∷ c .before .before .before .before .before .before .word-of7 .ensures i ∷ c .before .before .before .before .before .word-of8 .ensures i ∷ c .before .before .before .before .word-of9 .ensures i ∷ c .before .before .before .word-of10 .ensures i ∷ c .before .before .word-of11 .ensures i ∷ c .before .word-of12 .ensures i ∷ c .word-of13 .ensures i ∷ []
 
-pub answer-words-spec : {M : Type 1} → statement M
-answer-words-spec =
+pub words-of-spec : {M : Type 1} → statement M
+words-of-spec =
     tie.close
     (tie.spec
     word-of-requires
