@@ -38,9 +38,9 @@ static const struct refusal REFUSALS[] = {
     { 6, "a trial point lies beyond what doubles hold",
          "check the units; if they are right, go there in several shorter intervals" },
     { 7, "the distance from the centre at the end is not above zero",
-         "the path is too near the centre there: choose an end before or after that time" },
+         "choose an end nearer to the start: the path meets the centre, or rounding has lost it" },
     { 8, "a division by zero, or a figure of the answer that is not finite",
-         "check the units; if they are right, choose an end farther from the centre" }
+         "check the units; if they are right, choose an end nearer to the start" }
 };
 
 /* Says on standard error what is refused and what to do. */

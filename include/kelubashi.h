@@ -112,15 +112,15 @@ uint64_t kelubashi1_root(uint64_t word, uint64_t *answer, size_t n);
 **      3        the position is the centre's, or so near that its square is zero.
 **               Check x, y and z: they are seen from the centre, in km.
 **      4        a first figure (distance, speed, energy, first step) is too large for a double.
-**               Check all eight for their units: one is far out of range.
+**               Check the units of all eight: one is far out of range.
 **      5        41 trial points of growing size do not reach the interval.
 **               Check the units; if they are right, go there in several shorter intervals.
 **      6        a trial point lies beyond what doubles hold.
 **               Check the units; if they are right, go there in several shorter intervals.
 **      7        the distance at the end comes out as zero, below zero or as no number.
-**               The path is too near the centre there: choose an end before or after that time.
+**               Choose an end nearer to the start: the path meets the centre, or rounding has lost it.
 **      8        a division by zero, or a figure of the answer that is not finite.
-**               Check the units; if they are right, choose an end farther from the centre.
+**               Check the units; if they are right, choose an end nearer to the start.
 **     60        n is not 15; nothing is written.
 **               Correct the call: lend 15 words, and give 15 as their count.
 */
@@ -151,7 +151,7 @@ uint64_t kelubashi1_propagate(uint64_t mu, uint64_t x, uint64_t y, uint64_t z,
 **      1        k is not 36; the answer is refused with no point tried.
 **               Correct the call: lend 36 words, and give 36 as their count.
 **      2 to 7   as for kelubashi1_propagate
-**      8        the same, of the partials too.
+**      8        a division by zero, or a figure of the answer or a partial that is not finite.
 **               Try kelubashi1_propagate: it answers where only the partials are at fault.
 **     60        n is not 15; nothing is written to either run.
 **               Correct the call: lend 15 words, and give 15 as their count.
