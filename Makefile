@@ -1,4 +1,4 @@
-# make run      the root of a number through the C library: make run NUMBER=2.25
+# make run      a state of an orbit through the C library: make run STATE='MU X Y Z VX VY VZ TAU'
 # make check    all that must hold; ends in rt ci, whose last line is 'N passed, 0 failed'
 # make test     the C tests alone
 # make bench    instructions per call (and time on x86-64) beside plain C of the same rules: see bench/README.md
@@ -7,7 +7,7 @@
 
 X86 = sh tests/machine.sh
 STRICT = -std=c99 -Wall -Wextra -pedantic -Werror -O2 -ffp-contract=off
-TESTS = build/tests/root
+TESTS = build/tests/root build/tests/cases
 
 # The table's rows: root propagate partials, as far as the library has the calls.
 BENCH = root propagate partials
@@ -15,15 +15,15 @@ BESIDE = bench/plain.c bench/plain_root.c bench/plain_search.c bench/newton.c be
 
 # One step at a time, in the order written: what is cheap to find wrong comes before what takes minutes.
 .NOTPARALLEL:
-.PHONY: run check test bench lib clean kit layout machine header
+.PHONY: run check test bench lib clean kit layout machine header edition readme
 
-run: build/host/root
-	@$(X86) run $< $(if $(NUMBER),"$(NUMBER)")
+run: build/host/propagate
+	@$(X86) run $< $(STATE)
 
 check: layout test
 	@rt ci
 
-test: machine header $(TESTS)
+test: machine header edition readme build/host/propagate $(TESTS)
 	@for test in $(TESTS); do $(X86) run "$$test" || exit 1; done
 
 bench: machine $(BENCH:%=build/bench/%)
@@ -51,6 +51,12 @@ machine:
 
 header:
 	@sh tests/header.sh
+
+edition: machine lib
+	@sh tests/edition.sh
+
+readme: machine lib
+	@sh tests/readme.sh
 
 build/%: %.c include/kelubashi.h machine lib
 	@mkdir -p $(@D)

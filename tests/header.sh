@@ -1,13 +1,20 @@
 #!/bin/sh
-# The header is for C++ too. Nothing is linked or run, so any C++ compiler of this machine will do.
+# The header and the host programs are good C++ too. Nothing is linked or run, so any C++ compiler of
+# this machine will do. That they are good C is seen where they are compiled as C.
 set -eu
 cd "$(dirname "$0")/.."
 
+check() {
+    "$compiler" -std=c++11 -Wall -Wextra -pedantic -Werror -Iinclude -fsyntax-only -x c++ "$1"
+}
+
 for compiler in c++ g++ clang++; do
     if command -v "$compiler" >/dev/null; then
-        printf '#include "kelubashi.h"\n' |
-            "$compiler" -std=c++11 -Wall -Wextra -pedantic -Werror -Iinclude -fsyntax-only -x c++ -
-        echo "header: good C++ ($compiler)"
+        printf '#include "kelubashi.h"\n' | check -
+        for host in host/*.c; do
+            check "$host"
+        done
+        echo "header: good C++, and so are host/*.c ($compiler)"
         exit
     fi
 done

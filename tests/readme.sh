@@ -1,0 +1,19 @@
+#!/bin/sh
+# The README's program compiles, runs, and prints what the README says it does.
+set -eu
+cd "$(dirname "$0")/.."
+mkdir -p build/readme
+
+# The lines of the README's block of this kind.
+block() {
+    sed -n "/^\`\`\`$1\$/,/^\`\`\`\$/p" README.md | grep -v '^```'
+}
+
+block c >build/readme/program.c
+block text >build/readme/expected
+sh tests/machine.sh compile -std=c99 -Wall -Wextra -pedantic -Werror -Iinclude -o build/readme/program \
+    build/readme/program.c build/libkelubashi.a
+sh tests/machine.sh run build/readme/program >build/readme/printed
+diff build/readme/expected build/readme/printed ||
+    { echo 'readme: the program prints the lines marked >: correct the README' >&2; exit 1; }
+echo 'readme: its program prints what it says'
