@@ -1,16 +1,27 @@
 # make run      the root of a number through the C library: make run NUMBER=2.25
 # make check    all that must hold; ends in rt ci, whose last line is 'N passed, 0 failed'
 # make test     the C tests alone
+# make fuzz     the library against the second program, as long as told: make fuzz N=1000000 SEED=7
 # make lib      build/libkelubashi.a, for x86-64, from proved crates only
 # make clean    remove build/ and rt's target/
 
 X86 = sh tests/machine.sh
 STRICT = -std=c99 -Wall -Wextra -pedantic -Werror -O2 -ffp-contract=off
-TESTS = build/tests/root
+TESTS = build/tests/root build/tests/second/selftest
+
+# Comparisons with the second program. Each comes to TESTS with the entry points that it calls:
+# propagate with kelubashi1_propagate and _partials, files with kelubashi1_read, _write and _results.
+LATER = build/tests/propagate build/tests/files
+
+# What make fuzz runs, for how many inputs each, of which seed, and from which on.
+FUZZ = $(LATER)
+N = 1000000
+SEED := $(shell date +%s)
+FIRST = 0
 
 # One step at a time, in the order written: what is cheap to find wrong comes before what takes minutes.
 .NOTPARALLEL:
-.PHONY: run check test lib clean kit layout machine header
+.PHONY: run check test fuzz lib clean kit layout machine header
 
 run: build/host/root
 	@$(X86) run $< $(if $(NUMBER),"$(NUMBER)")
@@ -20,6 +31,9 @@ check: layout test
 
 test: machine header $(TESTS)
 	@for test in $(TESTS); do $(X86) run "$$test" || exit 1; done
+
+fuzz: machine $(FUZZ)
+	@for test in $(FUZZ); do $(X86) run "$$test" $(N) $(SEED) $(FIRST) || exit 1; done
 
 # Always asked of rt, which alone knows by content what target/ has proved already. rt ci removes
 # target/ and proves all anew, so a copy stays in build/ for the hosts.
@@ -44,6 +58,20 @@ machine:
 header:
 	@sh tests/header.sh
 
-build/%: %.c include/kelubashi.h machine lib
+SECOND = $(patsubst %,build/tests/second/%.o,root series search states files)
+HEADERS = include/kelubashi.h $(wildcard tests/*.h tests/second/*.h)
+
+build/tests/propagate: $(patsubst %,build/tests/%.o,drive orbits aimed inputs aims) $(SECOND)
+build/tests/files: $(patsubst %,build/tests/%.o,drive orbits sections) $(SECOND)
+
+build/%: %.c $(HEADERS) machine lib
 	@mkdir -p $(@D)
-	@$(X86) compile $(STRICT) -Iinclude -o $@ $< build/libkelubashi.a -lm
+	@$(X86) compile $(STRICT) -Iinclude -o $@ $< $(filter %.o,$^) build/libkelubashi.a -lm
+
+# The second program knows nothing of the library, and its self-test links without it.
+build/tests/second/selftest: tests/second/selftest.c $(SECOND) | machine
+	@$(X86) compile $(STRICT) -o $@ $^ -lm
+
+build/%.o: %.c $(HEADERS) | machine
+	@mkdir -p $(@D)
+	@$(X86) compile $(STRICT) -Iinclude -c -o $@ $<
