@@ -9,12 +9,12 @@ X86 = sh tests/machine.sh
 STRICT = -std=c99 -Wall -Wextra -pedantic -Werror -O2 -ffp-contract=off
 TESTS = build/tests/root build/tests/second/selftest
 
-# Comparisons with the second program. Each comes to TESTS with the entry points that it calls:
+# The library against the second program. Each comes to TESTS with the entry points that it calls:
 # propagate with kelubashi1_propagate and _partials, files with kelubashi1_read, _write and _results.
-LATER = build/tests/propagate build/tests/files
+COMPARISONS = build/tests/propagate build/tests/files
 
-# What make fuzz runs, for how many inputs each, of which seed, and from which on.
-FUZZ = $(LATER)
+# What make fuzz runs, for how many inputs each, of which seed, and from which number on.
+FUZZ = $(filter $(COMPARISONS),$(TESTS))
 N = 1000000
 SEED := $(shell date +%s)
 FIRST = 0
@@ -33,6 +33,7 @@ test: machine header $(TESTS)
 	@for test in $(TESTS); do $(X86) run "$$test" || exit 1; done
 
 fuzz: machine $(FUZZ)
+	@echo 'fuzz: $(N) inputs of seed $(SEED) each, from number $(FIRST) on, to: $(or $(FUZZ),none: add a comparison to TESTS)'
 	@for test in $(FUZZ); do $(X86) run "$$test" $(N) $(SEED) $(FIRST) || exit 1; done
 
 # Always asked of rt, which alone knows by content what target/ has proved already. rt ci removes
@@ -59,6 +60,7 @@ header:
 	@sh tests/header.sh
 
 SECOND = $(patsubst %,build/tests/second/%.o,root series search states files)
+SELFTEST = $(patsubst %,build/tests/second/selftest%.o,_root _calls _orbits _files)
 HEADERS = include/kelubashi.h $(wildcard tests/*.h tests/second/*.h)
 
 build/tests/propagate: $(patsubst %,build/tests/%.o,drive orbits aimed inputs aims) $(SECOND)
@@ -69,7 +71,7 @@ build/%: %.c $(HEADERS) machine lib
 	@$(X86) compile $(STRICT) -Iinclude -o $@ $< $(filter %.o,$^) build/libkelubashi.a -lm
 
 # The second program knows nothing of the library, and its self-test links without it.
-build/tests/second/selftest: tests/second/selftest.c $(SECOND) | machine
+build/tests/second/selftest: build/tests/second/selftest.o $(SELFTEST) $(SECOND) | machine
 	@$(X86) compile $(STRICT) -o $@ $^ -lm
 
 build/%.o: %.c $(HEADERS) | machine

@@ -6,7 +6,6 @@
 
 #include <float.h>
 #include <math.h>
-#include <string.h>
 
 #define SIGN (UINT64_C(1) << 63)
 #define UNIT (UINT64_C(1) << 52)

@@ -69,11 +69,25 @@ static void print_given(const char *whose, const struct given *g, int with_run)
         print_words("    run with a word before and some behind", g->run, ROOM);
 }
 
+static void print_first(const char *where, const uint64_t *library, const uint64_t *second, int count)
+{
+    int i;
+
+    for (i = 0; i < count; i++)
+        if (library[i] != second[i]) {
+            printf("  %s %d is the first that differs\n", where, i);
+            return;
+        }
+}
+
 static void differs(const char *what, const uint64_t *words, const struct given *library,
                     const struct given *second, int with_run)
 {
     printf("\npropagate: %s, of the family %s, the eight words\n", what, family->name);
     print_words("   ", words, 8);
+    print_first("word of the answer", library->answer + 1, second->answer + 1, ANSWER);
+    if (with_run)
+        print_first("with the word before it as 0, word of the run", library->run, second->run, ROOM);
     print_given("the library", library, with_run);
     print_given("the second program", second, with_run);
     drive_differs();
