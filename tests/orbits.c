@@ -27,7 +27,9 @@ double power(int low, int high)
 
 double around(int low, int high)
 {
-    return ldexp(between(1, 2), any_from(low, high));
+    double digits = between(1, 2);
+
+    return ldexp(digits, any_from(low, high));
 }
 
 void put_at(uint64_t *words, int place, double figure)

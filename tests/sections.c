@@ -198,13 +198,14 @@ static void cut(struct file *f, uint64_t turn)
     f->length = turn % (f->length + 1);
 }
 
-/* From 1 to 17 bytes behind a file. */
+/* From 1 to 17 bytes behind a file, and at times so many that 16 bits would take the length for that of a cut. */
 static void longer(struct file *f, uint64_t turn)
 {
     size_t end;
 
     sound_file(f, turn);
-    for (end = f->length + 1 + turn % 17; f->length < end; f->length++)
+    end = one_in(40) ? 65536 + any_below(f->length + 1) : f->length + 1 + turn % 17;
+    for (; f->length < end; f->length++)
         f->bytes[f->length] = (uint8_t)any_word();
 }
 
@@ -281,6 +282,17 @@ static void any_bytes(struct file *f, uint64_t turn)
     f->length = any_below(f->length + 1);
 }
 
+/* Words of 0 to 3 behind the edition: counts and numbers wherever the walk takes them to be. */
+static void small_words(struct file *f, uint64_t turn)
+{
+    size_t words = turn % 48;
+
+    f->length = 0;
+    add_word(f, 1);
+    while (words-- > 0)
+        add_word(f, any_below(4));
+}
+
 const struct family families[] = {
     { "sound files", 16, NULL, sound_file },
     { "cuts", 10, NULL, cut },
@@ -291,6 +303,7 @@ const struct family families[] = {
     { "numbers out of range", 8, NULL, wrong_file_numbers },
     { "counts at the limits", 1, NULL, limits_file },
     { "any bytes", 6, NULL, any_bytes },
+    { "small words", 6, NULL, small_words },
     { "sound sections", 10, sound, NULL },
     { "runs of odd lengths", 6, odd_runs, NULL },
     { "numbers to write out of range", 6, wrong_numbers, NULL },

@@ -16,7 +16,8 @@
 #define MOST_REQUESTS 1501
 #define STATE 8
 #define REQUEST 2
-#define MOST_BYTES (8 * (4 + MOST_CENTRES + STATE * MOST_STATES + REQUEST * MOST_REQUESTS) + 64)
+#define MOST_BEHIND 65600     /* bytes behind a file */
+#define MOST_BYTES (8 * (4 + MOST_CENTRES + STATE * MOST_STATES + REQUEST * MOST_REQUESTS) + MOST_BEHIND)
 
 struct sections {
     uint64_t centres[MOST_CENTRES], states[STATE * MOST_STATES + 8], requests[REQUEST * MOST_REQUESTS + 2];

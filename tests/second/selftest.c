@@ -114,6 +114,7 @@ void expect_refusal(const double e[8], uint64_t number,
 
 int main(void)
 {
+    printf("second program, its self-test:\n");
     selftest_root();
     selftest_calls();
     selftest_orbits();
