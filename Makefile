@@ -63,8 +63,8 @@ SECOND = $(patsubst %,build/tests/second/%.o,root series search states files)
 SELFTEST = $(patsubst %,build/tests/second/selftest%.o,_root _calls _orbits _files)
 HEADERS = include/kelubashi.h $(wildcard tests/*.h tests/second/*.h)
 
-build/tests/propagate: $(patsubst %,build/tests/%.o,drive orbits aimed inputs aims) $(SECOND)
-build/tests/files: $(patsubst %,build/tests/%.o,drive orbits sections) $(SECOND)
+build/tests/propagate: $(patsubst %,build/tests/%.o,drive orbits aimed aimed_search inputs aims) $(SECOND)
+build/tests/files: $(patsubst %,build/tests/%.o,drive orbits sections damaged lent) $(SECOND)
 
 build/%: %.c $(HEADERS) machine lib
 	@mkdir -p $(@D)

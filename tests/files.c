@@ -9,6 +9,7 @@
 */
 #include "drive.h"
 #include "kelubashi.h"
+#include "lent.h"
 #include "second/second.h"
 #include "sections.h"
 
@@ -18,147 +19,11 @@
 #include <string.h>
 
 #define USUAL 60000     /* three in four are files, the others are sections to write */
-#define LENT UINT64_C(0x5EED5EED5EED5EED)
-#define READ 8     /* words of an answer */
-#define WRITTEN 2
-#define EDGE 16     /* bytes before and behind what is lent */
-#define TAIL 24     /* room beyond what is needed */
-#define MOST_RESULTS (16 + 88 * 1500)
-#define MOST_ROOM (MOST_RESULTS + TAIL + 2 * EDGE)
-
-/* What one call gave: its status, its answer with a word before and behind, and its room. */
-struct given {
-    uint64_t status;
-    uint64_t answer[READ + 2];
-    uint8_t room[MOST_ROOM];
-    size_t room_length;
-};
 
 static const struct family *family;
 static uint64_t *family_seen, read_seen[64], write_seen[64], results_seen[64];
-static struct given library, second;
 static struct file file, again, lent_to_library, lent_to_second;
 static struct sections sections;
-
-/* Words and bytes no two alike; another mark in the answer for each program. */
-static void lend(struct given *g, uint64_t mark, size_t room_length)
-{
-    size_t i;
-
-    g->status = mark;
-    g->room_length = room_length;
-    for (i = 0; i < READ + 2; i++)
-        g->answer[i] = mark + i;
-    for (i = 0; i < room_length + 2 * EDGE; i++)
-        g->room[i] = (uint8_t)(0xA5 + i % 251);
-}
-
-static void lend_both(size_t room_length)
-{
-    lend(&library, LENT, room_length);
-    lend(&second, ~LENT, room_length);
-}
-
-static uint8_t *room_of(struct given *g)
-{
-    return g->room_length ? g->room + EDGE : NULL;
-}
-
-/* ---- what differs ---- */
-
-static void print_bytes(const char *before, const uint8_t *bytes, size_t length)
-{
-    size_t i;
-
-    printf("%s", before);
-    for (i = 0; i < length && i < 512; i++)
-        printf("%s%02X", i % 8 == 0 ? " " : "", (unsigned)bytes[i]);
-    printf("%s\n", length > 512 ? " and more" : "");
-}
-
-static void print_run(const char *name, const uint64_t *run, size_t words)
-{
-    size_t i;
-
-    printf("  %s, %zu words:", name, words);
-    for (i = 0; i < words && i < 64; i++)
-        printf(" %016" PRIX64, run[i]);
-    printf("%s\n", words > 64 ? " and more" : "");
-}
-
-static void print_input(void)
-{
-    if (family->file != NULL) {
-        printf("  the file, %zu bytes:", file.length);
-        print_bytes("", file.bytes, file.length);
-        return;
-    }
-    print_run("centres", sections.centres, sections.centre_words);
-    print_run("states", sections.states, sections.state_words);
-    print_run("requests", sections.requests, sections.request_words);
-}
-
-static void print_given(const char *whose, const struct given *g, size_t from)
-{
-    size_t i, end = g->room_length + 2 * EDGE;
-
-    printf("  %s: status %" PRIu64 ", answer", whose, g->status);
-    for (i = 1; i <= READ; i++)
-        printf(" %" PRIX64, g->answer[i]);
-    printf(" hex\n");
-    if (from < end)
-        print_bytes("    room from there on:", g->room + from, end - from);
-}
-
-static void differs(const char *what)
-{
-    size_t at = 0, end = library.room_length + 2 * EDGE;
-
-    printf("\nfiles: %s, of the family %s\n", what, family->name);
-    print_input();
-    while (at < end && library.room[at] == second.room[at])
-        at++;
-    if (at < end)
-        printf("  of a room of %zu bytes, the byte at %ld is another\n", library.room_length, (long)at - EDGE);
-    print_given("the library", &library, at);
-    print_given("the second program", &second, at);
-    drive_differs();
-}
-
-/* The first words of the answers alike, no word around them written, and the rooms alike from edge to edge. */
-static void compare(const char *what, size_t words)
-{
-    size_t i;
-
-    if (library.status != second.status || memcmp(library.answer + 1, second.answer + 1, 8 * words) != 0
-        || memcmp(library.room, second.room, library.room_length + 2 * EDGE) != 0)
-        differs(what);
-    for (i = 0; i < READ + 2; i++)
-        if ((i == 0 || i > words) && (library.answer[i] != LENT + i || second.answer[i] != ~LENT + i))
-            differs("written beside the answer");
-}
-
-/* Nothing written, and status 60. */
-static void expect_sixty(const char *what)
-{
-    lend(&second, LENT, library.room_length);
-    second.status = 60;
-    if (library.status != 60 || memcmp(library.answer, second.answer, sizeof library.answer) != 0
-        || memcmp(library.room, second.room, library.room_length + 2 * EDGE) != 0)
-        differs(what);
-}
-
-static size_t wrong_count(size_t right)
-{
-    size_t count = any_below(READ + 1);
-
-    return count == right ? right + 1 : count;
-}
-
-static uint64_t *answer_of(struct given *g, size_t count)
-{
-    return count ? g->answer + 1 : NULL;
-}
 
 /* ---- reading ---- */
 
@@ -319,9 +184,11 @@ static void compare_one(uint64_t number)
     family_seen[which]++;
     if (family->file != NULL) {
         family->file(&file, turn);
+        lent_for(family->name, &file, NULL);
         compare_file();
     } else {
         family->sections(&sections, turn);
+        lent_for(family->name, NULL, &sections);
         compare_sections();
     }
 }
@@ -366,7 +233,7 @@ int main(int count, char **words)
     while (drive_next(&number))
         compare_one(number);
     if (tell() && drive_whole()) {
-        printf("files: a number with 0 above was never met: give it a family in tests/sections.c\n");
+        printf("files: a number with 0 above was never met: give it a family in tests/damaged.c\n");
         return EXIT_FAILURE;
     }
     return EXIT_SUCCESS;

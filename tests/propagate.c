@@ -243,7 +243,7 @@ int main(int count, char **words)
     while (drive_next(&number))
         compare_one(number);
     if (tell() && drive_whole()) {
-        printf("propagate: a refusal or an aim with 0 above was never met: aim its family in tests/aimed.c better\n");
+        printf("propagate: a refusal or an aim with 0 above was never met: aim its family in tests/aimed.c or tests/aimed_search.c better\n");
         return EXIT_FAILURE;
     }
     return EXIT_SUCCESS;

@@ -46,6 +46,15 @@ size_t family_of(uint64_t number, uint64_t *turn);
 
 uint64_t word_at(const struct file *file, size_t place);
 void put_word(struct file *file, size_t place, uint64_t word);
+void add_word(struct file *file, uint64_t word);     /* at the end */
 void lay_out(struct file *file, const struct sections *sections);
+
+/* Sound sections of these counts; one request in so many takes a search. */
+void any_sections(struct sections *sections, size_t centres, size_t states, size_t requests, uint64_t searches);
+
+void sound(struct sections *sections, uint64_t turn);
+void limits(struct sections *sections, uint64_t turn);
+void odd_runs(struct sections *sections, uint64_t turn);
+void wrong_numbers(struct sections *sections, uint64_t turn);
 
 #endif
