@@ -1,13 +1,24 @@
 # make run      a state of an orbit through the C library: make run STATE='MU X Y Z VX VY VZ TAU'
 # make check    all that must hold; ends in rt ci, whose last line is 'N passed, 0 failed'
 # make test     the C tests alone
+# make fuzz     the library against the second program, as long as told: make fuzz N=1000000 SEED=7
 # make bench    instructions per call (and time on x86-64) beside plain C of the same rules: see bench/README.md
 # make lib      build/libkelubashi.a, for x86-64, from proved crates only
 # make clean    remove build/ and rt's target/
 
 X86 = sh tests/machine.sh
 STRICT = -std=c99 -Wall -Wextra -pedantic -Werror -O2 -ffp-contract=off
-TESTS = build/tests/root build/tests/cases
+TESTS = build/tests/root build/tests/cases build/tests/second/selftest build/tests/propagate
+
+# The library against the second program. Each comes to TESTS with the entry points that it calls:
+# propagate with kelubashi1_propagate and _partials, files with kelubashi1_read, _write and _results.
+COMPARISONS = build/tests/propagate build/tests/files
+
+# What make fuzz runs, for how many inputs each, of which seed, and from which number on.
+FUZZ = $(filter $(COMPARISONS),$(TESTS))
+N = 1000000
+SEED := $(shell date +%s)
+FIRST = 0
 
 # The table's rows: root propagate partials, as far as the library has the calls.
 BENCH = root propagate partials
@@ -15,7 +26,7 @@ BESIDE = bench/plain.c bench/plain_root.c bench/plain_search.c bench/newton.c be
 
 # One step at a time, in the order written: what is cheap to find wrong comes before what takes minutes.
 .NOTPARALLEL:
-.PHONY: run check test bench lib clean kit layout machine header edition readme
+.PHONY: run check test fuzz bench lib clean kit layout machine header edition readme
 
 run: build/host/propagate
 	@$(X86) run $< $(STATE)
@@ -25,6 +36,10 @@ check: layout test
 
 test: machine header edition readme build/host/propagate $(TESTS)
 	@for test in $(TESTS); do $(X86) run "$$test" || exit 1; done
+
+fuzz: machine $(FUZZ)
+	@echo 'fuzz: $(N) inputs of seed $(SEED) each, from number $(FIRST) on, to: $(or $(FUZZ),none: add a comparison to TESTS)'
+	@for test in $(FUZZ); do $(X86) run "$$test" $(N) $(SEED) $(FIRST) || exit 1; done
 
 bench: machine $(BENCH:%=build/bench/%)
 	@sh bench/run.sh $(BENCH)
@@ -58,10 +73,25 @@ edition: machine lib
 readme: machine lib
 	@sh tests/readme.sh
 
-build/%: %.c include/kelubashi.h machine lib
+SECOND = $(patsubst %,build/tests/second/%.o,root series search states files)
+SELFTEST = $(patsubst %,build/tests/second/selftest%.o,_root _calls _orbits _files)
+HEADERS = include/kelubashi.h $(wildcard tests/*.h tests/second/*.h)
+
+build/tests/propagate: $(patsubst %,build/tests/%.o,drive orbits aimed aimed_search inputs aims) $(SECOND)
+build/tests/files: $(patsubst %,build/tests/%.o,drive orbits sections damaged lent) $(SECOND)
+
+build/%: %.c $(HEADERS) machine lib
 	@mkdir -p $(@D)
-	@$(X86) compile $(STRICT) -Iinclude -o $@ $< build/libkelubashi.a -lm
+	@$(X86) compile $(STRICT) -Iinclude -o $@ $< $(filter %.o,$^) build/libkelubashi.a -lm
 
 build/bench/%: bench/row_%.c $(BESIDE) $(wildcard bench/*.h) include/kelubashi.h machine lib
 	@mkdir -p $(@D)
 	@$(X86) compile $(STRICT) -Iinclude -o $@ $< $(BESIDE) build/libkelubashi.a -lm
+
+# The second program knows nothing of the library, and its self-test links without it.
+build/tests/second/selftest: build/tests/second/selftest.o $(SELFTEST) $(SECOND) | machine
+	@$(X86) compile $(STRICT) -o $@ $^ -lm
+
+build/%.o: %.c $(HEADERS) | machine
+	@mkdir -p $(@D)
+	@$(X86) compile $(STRICT) -Iinclude -c -o $@ $<

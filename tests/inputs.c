@@ -1,0 +1,54 @@
+#include "inputs.h"
+
+#include "aimed.h"
+#include "orbits.h"
+
+const struct family families[] = {
+    { "ellipses", 10, 0, ellipse },
+    { "long ellipses", 4, 1, long_ellipse },
+    { "near-parabolas", 6, 0, near_parabola },
+    { "parabolas", 4, 0, parabola },
+    { "hyperbolas", 8, 0, hyperbola },
+    { "long hyperbolas", 4, 1, long_hyperbola },
+    { "radial", 6, 0, radial },
+    { "mu zero", 4, 0, no_pull },
+    { "mu below zero", 6, 0, push },
+    { "marked", 1, 1, marked },
+    { "whole numbers", 4, 1, whole_numbers },
+    { "tau zero", 3, 0, no_interval },
+    { "any words", 3, 0, any_words },
+    { "any scales", 6, 1, any_scales },
+    { "one word of any bits", 5, 0, one_word },
+    { "not finite", 2, 0, not_finite },
+    { "small sums", 2, 1, small_sum },
+    { "large figures", 3, 1, large_figures },
+    { "sigma0 alone", 1, 1, sigma_alone },
+    { "all short", 2, 1, all_short },
+    { "far out", 2, 1, far_out },
+    { "infinite R", 3, 1, infinite_error },
+    { "infinite r", 2, 1, infinite_radius },
+    { "small H", 2, 1, small_interval },
+    { "psi at place 0", 2, 1, place_zero },
+    { "exact", 3, 1, exact },
+    { "to the centre", 3, 1, to_centre },
+    { "no figures", 2, 1, no_figures },
+    { "start alone", 2, 1, start_alone },
+    { "partials alone", 3, 1, partials_alone },
+};
+
+const size_t family_count = sizeof families / sizeof families[0];
+
+size_t family_of(uint64_t number)
+{
+    static uint64_t shares;
+    uint64_t turn;
+    size_t i;
+
+    if (shares == 0)
+        for (i = 0; i < family_count; i++)
+            shares += families[i].share;
+    turn = number % shares;
+    for (i = 0; turn >= families[i].share; i++)
+        turn -= families[i].share;
+    return i;
+}

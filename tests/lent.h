@@ -1,0 +1,51 @@
+/*
+**  What is lent to the library and to the second program for one call, what they give, and how the
+**  two are compared.
+*/
+#ifndef LENT_H
+#define LENT_H
+
+#include "sections.h"
+
+#define LENT UINT64_C(0x5EED5EED5EED5EED)
+#define READ 8     /* words of an answer */
+#define WRITTEN 2
+#define EDGE 16     /* bytes before and behind what is lent */
+#define TAIL 24     /* room beyond what is needed */
+#define MOST_RESULTS (16 + 88 * 1500)
+#define MOST_ROOM (MOST_RESULTS + TAIL + 2 * EDGE)
+
+/* What one call gave: its status, its answer with a word before and behind, and its room. */
+struct given {
+    uint64_t status;
+    uint64_t answer[READ + 2];
+    uint8_t room[MOST_ROOM];
+    size_t room_length;
+};
+
+extern struct given library, second;
+
+/* The input that a disagreement is told of: a file, or sections. */
+void lent_for(const char *family, const struct file *file, const struct sections *sections);
+
+/* Words and bytes unlike their neighbours; another mark in the answer for each program. */
+void lend(struct given *given, uint64_t mark, size_t room_length);
+void lend_both(size_t room_length);
+
+/* Null where the length is 0. */
+uint8_t *room_of(struct given *given);
+uint64_t *answer_of(struct given *given, size_t count);
+
+/* Any count of an answer but the right one. */
+size_t wrong_count(size_t right);
+
+/* The first words of the answers alike, no word around them written, and the rooms alike from edge to edge. */
+void compare(const char *what, size_t words);
+
+/* The library's status is 60, and nothing is written. */
+void expect_sixty(const char *what);
+
+/* Ends the program with the input and with what both gave. */
+void differs(const char *what);
+
+#endif

@@ -1,0 +1,45 @@
+/* The C face of the second implementation.
+ *
+ * Every number crosses as its 64-bit word, every run as a pointer and a count.
+ * Each call returns the refusal's number, or 0.  The answer run is written
+ * whole on every call, except when its count is not the one named: then the
+ * call returns 60 and writes nothing anywhere.  Runs must not overlap.  A
+ * length of 0 may come with a null pointer. */
+#ifndef SECOND_H
+#define SECOND_H
+
+#include <stddef.h>
+#include <stdint.h>
+
+/* n = 1: the root, or 0 with refusal 9. */
+uint64_t second_root(uint64_t word, uint64_t *answer, size_t n);
+
+/* n = 15: refusal, points, position, velocity, end acceleration,
+ * start acceleration, psi. */
+uint64_t second_propagate(uint64_t mu, uint64_t x, uint64_t y, uint64_t z,
+                          uint64_t vx, uint64_t vy, uint64_t vz, uint64_t tau,
+                          uint64_t *answer, size_t n);
+
+/* n = 15 as above; k = 36: the partials, row by row. */
+uint64_t second_partials(uint64_t mu, uint64_t x, uint64_t y, uint64_t z,
+                         uint64_t vx, uint64_t vy, uint64_t vz, uint64_t tau,
+                         uint64_t *answer, size_t n,
+                         uint64_t *run, size_t k);
+
+/* n = 8: number, place, then place and count of centres, states, requests. */
+uint64_t second_read(const uint8_t *file, size_t len,
+                     uint64_t *answer, size_t n);
+
+/* n = 2: number, then the place of the refusal or the length written. */
+uint64_t second_write(const uint64_t *centres, size_t centre_words,
+                      const uint64_t *states, size_t state_words,
+                      const uint64_t *requests, size_t request_words,
+                      uint8_t *room, size_t room_len,
+                      uint64_t *answer, size_t n);
+
+/* n = 2: number, then the length written, or for 26 the length needed. */
+uint64_t second_results(const uint8_t *file, size_t len,
+                        uint8_t *room, size_t room_len,
+                        uint64_t *answer, size_t n);
+
+#endif

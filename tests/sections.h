@@ -1,0 +1,60 @@
+/*
+**  Element files to compare readers and writers with: the three sections as runs of words, the bytes
+**  of the file that they are, and the ways in which both are damaged.
+**
+**  Files are laid out here and not by a writer, so that they may hold what no writer writes.
+*/
+#ifndef SECTIONS_H
+#define SECTIONS_H
+
+#include <stddef.h>
+#include <stdint.h>
+
+/* One record more than each limit. */
+#define MOST_CENTRES 17
+#define MOST_STATES 501
+#define MOST_REQUESTS 1501
+#define STATE 8
+#define REQUEST 2
+#define MOST_BEHIND 65600     /* bytes behind a file */
+#define MOST_BYTES (8 * (4 + MOST_CENTRES + STATE * MOST_STATES + REQUEST * MOST_REQUESTS) + MOST_BEHIND)
+
+struct sections {
+    uint64_t centres[MOST_CENTRES], states[STATE * MOST_STATES + 8], requests[REQUEST * MOST_REQUESTS + 2];
+    size_t centre_words, state_words, request_words;
+};
+
+struct file {
+    uint8_t bytes[MOST_BYTES];
+    size_t length;
+};
+
+/* A family makes sections, for the writer, or a file, for the reader and the results; the turn counts
+   its inputs, so that a list is gone through in order. */
+struct family {
+    const char *name;
+    unsigned share;     /* of every hundred inputs or so */
+    void (*sections)(struct sections *sections, uint64_t turn);
+    void (*file)(struct file *file, uint64_t turn);
+};
+
+extern const struct family families[];
+extern const size_t family_count;
+
+/* The family of an input and its turn, which go by the input's number. */
+size_t family_of(uint64_t number, uint64_t *turn);
+
+uint64_t word_at(const struct file *file, size_t place);
+void put_word(struct file *file, size_t place, uint64_t word);
+void add_word(struct file *file, uint64_t word);     /* at the end */
+void lay_out(struct file *file, const struct sections *sections);
+
+/* Sound sections of these counts; one request in so many takes a search. */
+void any_sections(struct sections *sections, size_t centres, size_t states, size_t requests, uint64_t searches);
+
+void sound(struct sections *sections, uint64_t turn);
+void limits(struct sections *sections, uint64_t turn);
+void odd_runs(struct sections *sections, uint64_t turn);
+void wrong_numbers(struct sections *sections, uint64_t turn);
+
+#endif
