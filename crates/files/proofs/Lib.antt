@@ -1,0 +1,6 @@
+pub mod WordLaws
+pub mod PutLaws
+pub mod CheckLaws
+pub mod RecordLaws
+pub mod WalkLaws
+pub mod Accepted
