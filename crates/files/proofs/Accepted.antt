@@ -81,7 +81,8 @@ module _ (file : List ℕ) (sound : fileCheck file ≡ Sound) where
   nothing-left = leb-true _ _ (needed _ _ _ (from-requests .1))
 
   pub counts-within : (centres ≤ 16) × (states ≤ 500) × (requests ≤ 1500)
-  counts-within =
-      (count-within file 8 Centres 0 centres-sound,
-      count-within file (statesPlace centres) States centres states-sound,
-      count-within file (requestsPlace centres states) Requests states requests-sound)
+  counts-within = (
+    count-within file 8 Centres 0 centres-sound,
+    count-within file (statesPlace centres) States centres states-sound,
+    count-within file (requestsPlace centres states) Requests states requests-sound,
+  )

@@ -7,8 +7,8 @@ use mathlib.Core.List.{List, [], _∷_, _++_, append-assoc, append-nil}
 use borrow.Author.Tests.{le-leb, lt-leb}
 use lib.ListN.{length, take, drop, set, length-append, length-drop, take-append-drop}
 use lib.Seq.{take-at, drop-append-add, drop-drop, length-take-le, set-split}
-use Rattle.files.specs.Words.{put, bytesOf}
-use Rattle.files.proofs.WordLaws.{length-bytes}
+use Rattle.files.specs.Words.{put, bytesOf, written}
+use Rattle.files.proofs.WordLaws.{length-bytes, length-written}
 
 pub put-fits : (room bs : List ℕ) (place : ℕ) → place + length bs ≤ length room → put room place bs ≡ take place room ++ bs ++ drop (place + length bs) room
 unfolding put
@@ -65,3 +65,11 @@ lowest-stored room place left n w e h =
     ∙ sym
     (ap (λ (d : List ℕ). put d (place + 1) (bytesOf n (w / 256))) (put-byte room place (w % 256) (omega arith))
     ∙ put-next room (w % 256 ∷ []) (bytesOf n (w / 256)) place (place + 1) refl (omega arith))
+
+-- a run's first word, and its others after it
+pub first-put : (room : List ℕ) (place w : ℕ) (ws : List ℕ) → place + 8 * suc (length ws) ≤ length room →
+    put room place (written (w ∷ ws)) ≡ put (put room place (bytesOf 8 w)) (place + 8) (written ws)
+unfolding written bytesOf
+first-put room place w ws h =
+    let l : length (written ws) ≡ 8 * length ws = length-written ws in
+    sym (put-next room (bytesOf 8 w) (written ws) place (place + 8) refl (omega arith))

@@ -7,7 +7,8 @@ use mathlib.Core.Bool.{Bool, true, false}
 use mathlib.Core.List.{List, [], _∷_}
 use borrow.Author.Tests.{leb-true, leb-false, le-leb, lt-leb}
 use lib.Dec.{leb}
-use lib.ListN.{length}
+use lib.ListN.{length, getD, drop}
+use lib.Seq.{drop-cons}
 use Rattle.files.specs.declared.sections.Check.{Check}
 use Rattle.files.specs.declared.sections.Check.the-variants.{Sound, Fault}
 use Rattle.files.specs.Words.{wordAt, wordsFrom}
@@ -103,3 +104,24 @@ module _ (rule : ℕ → ℕ → ℕ) (file : List ℕ) (place n left : ℕ) (mo
 
   pub file-goes-on : wordFault rule file at (n - left) ≡ 0 → here ≡ from rule (fileTail file place) place (n - (left - 1)) (left - 1)
   file-goes-on z = goes-by (leb (at + 8) (length file)) refl z
+
+-- ---- In a run of words, which are all there.
+
+abbrev pub runTail : List ℕ → ℕ → List ℕ
+runTail run j = drop j run
+
+pub run-from-start : (rule : ℕ → ℕ → ℕ) (run : List ℕ) (place n : ℕ) → from rule (runTail run) place 0 n ≡ walk rule place 0 n run
+run-from-start rule run place n = simp add-zero
+
+module _ (rule : ℕ → ℕ → ℕ) (run : List ℕ) (place left : ℕ) (more : 0 < left) (fits : left ≤ length run) where
+  next-of-run : runTail run (length run - left) ≡ getD run (length run - left) 0 ∷ runTail run (suc (length run - left))
+  next-of-run = drop-cons run (length run - left) 0 (omega arith)
+
+  pub run-stops : (rule (length run - left) (getD run (length run - left) 0) ≡ 0 → ⊥) →
+      from rule (runTail run) place (length run - left) left
+      ≡ Fault (rule (length run - left) (getD run (length run - left) 0)) (place + 8 * (length run - left))
+  run-stops h = walk-fault rule (runTail run) place (length run) left more fits (getD run (length run - left) 0) next-of-run h
+
+  pub run-goes-on : rule (length run - left) (getD run (length run - left) 0) ≡ 0 →
+      from rule (runTail run) place (length run - left) left ≡ from rule (runTail run) place (length run - (left - 1)) (left - 1)
+  run-goes-on z = walk-on rule (runTail run) place (length run) left more fits (getD run (length run - left) 0) next-of-run z

@@ -2,3 +2,4 @@
 pub mod Words
 pub mod Sections
 pub mod Reader
+pub mod Writer

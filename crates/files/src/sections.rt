@@ -87,11 +87,7 @@ pub(crate) fn end_place(centres: usize, states: usize, requests: usize) -> usize
     requires { ⌜ (centres ≤ 16) × (states ≤ 500) × (requests ≤ 1500) ⌝ }
     ensures { λ r. ⌜ r ≡ endPlace centres states requests ⌝ }
 {
-    place_after(
-        Section::Requests,
-        requests_place(centres, states),
-        requests,
-    )
+    place_after(Section::Requests, requests_place(centres, states), requests)
 }
 
 // 24 where the first word of a record is not the number of one of `below` records, else 0.

@@ -1,6 +1,6 @@
 // Little-endian 64-bit words in runs of bytes.
 ghost use mathlib.Core.Path.{_≡_};
-ghost use Prim.Native.Nat.{_+_, _<_, _≤_};
+ghost use Prim.Native.Nat.{_+_, _*_, _<_, _≤_};
 ghost use lib.Dec.{leb};
 ghost use lib.ListN.{length, take, drop};
 ghost use Rattle.files.specs.Words.{number, bytesOf, written, wordAt, put};
@@ -67,4 +67,32 @@ pub fn put_word(room: &mut [u8], place: usize, word: u64)
     if is_whole(room, place) {
         put_bytes(room, place, word);
     }
+}
+
+// The words of a run put one after another from a place on where there is room for them.
+fn put_each(room: &mut [u8], place: usize, run: &[u64])
+    requires { ⌜ place + 8 * length (now run) ≤ length (now room) ⌝ }
+    ensures { λ _. ⌜ now (room .exit) ≡ put (now (room .entry)) place (written (now (run .entry))) ⌝ }
+{
+    let n = run.len();
+    let mut left = n;
+    while 0 < left {
+        let j = n - left;
+        put_word(room, place + 8 * j, run[j]);
+        left -= 1;
+    }
+}
+
+// A run of words put at a place; where there is no room for all of them, nothing is changed.
+pub fn put_words(room: &mut [u8], place: usize, run: &[u64])
+    ensures { λ _. ⌜ now (room .exit) ≡ put (now (room .entry)) place (written (now (run .entry))) ⌝ }
+{
+    let space = room.len();
+    if space < place {
+        return;
+    }
+    if (space - place) / 8 < run.len() {
+        return;
+    }
+    put_each(room, place, run);
 }

@@ -25,13 +25,13 @@ word-at-requires : tie.Need-word-at-requires
 word-at-requires c κs = search needs
 
 check-states-requires : tie.Need-check-states-requires
-check-states-requires c κs = 
+check-states-requires c κs =
     let sound = sym (c .before .before .before .check-section .ensures) ∙ c .before .enum-told .given .1 in
     rw (c .word-at .ensures) (count-within _ 8 Centres 0 sound)
 
 returns-2 : tie.Need-returns-2
 unfolding centresCheck
-returns-2 c = 
+returns-2 c =
     goes-on (c .before .before .before .before .check-section .ensures) (c .before .before .enum-told .given .1)
     (c .check-states .ensures ∙ ap (statesCheck (c .before .before .before .before .before .before .args .file .now)) (c .before .word-at .ensures))
 

@@ -29,7 +29,7 @@ first-requires c κs = search needs
 
 returns : tie.Need-returns
 unfolding countCheck
-returns c = 
+returns c =
     let place = c .before .before .before .before .before .before .before .args .place in
     let two = c .before .need2 .ensures ∙ ap₂ (λ (w l : ℕ). need (leb w l) 23 place) (c .before .before .before .word-at .ensures) (c .before .before .limit .ensures) in
     let one = c .before .before .before .before .need .ensures ∙ ap (λ (t : Bool). need t 21 place) (c .before .before .before .before .before .is-whole .ensures) in

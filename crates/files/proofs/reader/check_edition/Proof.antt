@@ -26,7 +26,7 @@ first-requires c κs = search needs
 
 returns : tie.Need-returns
 unfolding editionCheck
-returns c = 
+returns c =
     let two = c .before .need2 .ensures ∙ ap (λ (w : ℕ). need (eqb w 1) 22 0) (c .before .before .word-at .ensures) in
     let one = c .before .before .before .need .ensures ∙ ap (λ (t : Bool). need t 21 0) (c .before .before .before .before .is-whole .ensures) in
     c .first .ensures ∙ ap₂ _⟫_ one two

@@ -27,7 +27,7 @@ enum-told-2 c = search needs
 
 returns : tie.Need-returns
 unfolding requestsCheck
-returns c = 
+returns c =
     let a = c .before .before .before .before .before .args in
     stops _ _ _ (c .before .before .check-section .ensures ∙ ap (λ (p : ℕ). sectionCheck (a .file .now) p Requests (a .states)) (c .before .before .before .requests-place .ensures))
     (c .enum-told2 .given .1)
@@ -36,7 +36,7 @@ word-at-requires : tie.Need-word-at-requires
 word-at-requires c κs = search needs
 
 end-place-requires : tie.Need-end-place-requires
-end-place-requires c κs = 
+end-place-requires c κs =
     let a = c .before .before .before .before .before .before .args in
     let sound = sym (c .before .before .before .check-section .ensures) ∙ c .before .enum-told .given .1 in
     (search needs, search needs, rw (c .word-at .ensures) (count-within (a .file .now) (c .before .before .before .before .requests-place .result) Requests (a .states) sound))
@@ -46,7 +46,7 @@ need-requires c κs = search needs
 
 returns-2 : tie.Need-returns-2
 unfolding requestsCheck
-returns-2 c = 
+returns-2 c =
     let a = c .before .before .before .before .before .before .before .before .args in
     let e = c .before .before .before .before .before .before .requests-place .ensures in
     goes-on

@@ -49,7 +49,7 @@ walk-words-requires c κs = omega (arith, few c)
 
 returns-2 : tie.Need-returns-2
 unfolding sectionCheck
-returns-2 c = 
+returns-2 c =
     let a = c .before .before .before .before .before .before .before .args in
     goes-on (c .before .before .before .before .before .check-count .ensures) (c .before .before .before .enum-told .given .1)
     (c .walk-words .ensures

@@ -24,7 +24,7 @@ enum-told-2 c = search needs
 
 returns : tie.Need-returns
 unfolding statesCheck
-returns c = 
+returns c =
     let a = c .before .before .before .before .before .args in
     stops _ _ _ (c .before .before .check-section .ensures ∙ ap (λ (p : ℕ). sectionCheck (a .file .now) p States (a .centres)) (c .before .before .before .states-place .ensures))
     (c .enum-told2 .given .1)
@@ -33,14 +33,14 @@ word-at-requires : tie.Need-word-at-requires
 word-at-requires c κs = search needs
 
 check-requests-requires : tie.Need-check-requests-requires
-check-requests-requires c κs = 
+check-requests-requires c κs =
     let a = c .before .before .before .before .before .before .args in
     let sound = sym (c .before .before .before .check-section .ensures) ∙ c .before .enum-told .given .1 in
     (search needs, rw (c .word-at .ensures) (count-within (a .file .now) (c .before .before .before .before .states-place .result) States (a .centres) sound))
 
 returns-2 : tie.Need-returns-2
 unfolding statesCheck
-returns-2 c = 
+returns-2 c =
     let a = c .before .before .before .before .before .before .before .args in
     let e = c .before .before .before .before .before .states-place .ensures in
     goes-on

@@ -20,7 +20,7 @@ enum-known-number c = search needs
 
 returns : tie.Need-returns
 unfolding readingOf
-returns c = 
+returns c =
     let sound = sym (c .before .before .before .check-file .ensures) ∙ c .before .enum-told .given .1 in
     rw sound (ap Sections (c .sections-of .ensures))
 

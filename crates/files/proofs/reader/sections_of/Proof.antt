@@ -33,7 +33,7 @@ word-at-requires-2 : tie.Need-word-at-requires-2
 word-at-requires-2 c κs = search needs
 
 requests-place-requires : tie.Need-requests-place-requires
-requests-place-requires c κs = 
+requests-place-requires c κs =
     let within = counts-within (c .before .before .before .before .args .file .now) (c .before .before .before .before .pre) in (
       rw (c .before .before .word-at .ensures) (within .0),
       rw (c .word-at2 .ensures, c .before .states-place .ensures, c .before .before .word-at .ensures) (within .1),
@@ -43,7 +43,7 @@ word-at-requires-3 : tie.Need-word-at-requires-3
 word-at-requires-3 c κs = search needs
 
 returns : tie.Need-returns
-returns c = 
+returns c =
     placed (c .before .before .before .before .before .before .args .file .now)
     (c .before .before .before .before .word-at .ensures) (c .before .before .before .states-place .ensures)
     (c .before .before .word-at2 .ensures) (c .before .requests-place .ensures) (c .word-at3 .ensures)

@@ -10,7 +10,7 @@ use Rattle.files.proofs.reader.walk_words.Statement.{statement}
 use Rattle.files.proofs.reader.walk_words.Tie as tie
 
 abbrev Inv-loop : tie.InvT-loop
-Inv-loop file place words section below left₀ left = 
+Inv-loop file place words section below left₀ left =
     (left ≤ words)
     × (from (ruleOf section below) (fileTail file place) place (words - left) left ≡ from (ruleOf section below) (fileTail file place) place 0 words)
 
@@ -33,7 +33,7 @@ word-fault-requires : tie.Need-word-fault-requires Inv-loop μ-loop
 word-fault-requires c κs = search needs
 
 returns : tie.Need-returns Inv-loop μ-loop
-returns c = 
+returns c =
     let l = c .before .before .before .loop in
     let a = c .before .before .before .before .before .args in
     let at = a .place + 8 * (a .words - l .left) in
@@ -51,18 +51,18 @@ loop-less : tie.Need-loop-less Inv-loop μ-loop
 loop-less c = search needs
 
 loop-again : tie.Need-loop-again Inv-loop μ-loop
-loop-again c = 
+loop-again c =
     let l = c .before .before .before .loop in
     let a = c .before .before .before .before .before .args in (
       search needs,
       sym
-      (file-goes-on (ruleOf (a .section) (a .below)) (a .file .now) (a .place) (a .words) (l .left) (c .before .before .loop-test .taken) (l .inv .0)
+          (file-goes-on (ruleOf (a .section) (a .below)) (a .file .now) (a .place) (a .words) (l .left) (c .before .before .loop-test .taken) (l .inv .0)
           (sym (c .before .word-fault .ensures) ∙ c .if1 .left))
           ∙ l .inv .1,
     )
 
 returns-2 : tie.Need-returns-2 Inv-loop μ-loop
-returns-2 c = 
+returns-2 c =
     let l = c .before .loop in
     let a = c .before .before .before .args in
     sym (walk-done (ruleOf (a .section) (a .below)) (fileTail (a .file .now) (a .place)) (a .place) (a .words) (l .left) (c .loop-test .left))

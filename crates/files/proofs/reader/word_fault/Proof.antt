@@ -19,14 +19,14 @@ fault-requires : tie.Need-fault-requires
 fault-requires c κs = search needs
 
 returns : tie.Need-returns
-returns c = 
+returns c =
     let a = c .before .before .before .before .before .args in
     let rule = ruleOf (a .section) (a .below) in
     let whole = leb-true (a .place + 8) (length (a .file .now)) (sym (c .before .before .before .is-whole .ensures) ∙ c .before .before .if1 .taken) in
     c .fault .ensures ∙ ap (rule (a .j)) (c .before .word-at .ensures) ∙ sym (fault-whole rule (a .file .now) (a .place) (a .j) whole)
 
 returns-2 : tie.Need-returns-2
-returns-2 c = 
+returns-2 c =
     let a = c .before .before .before .args in
     let short = leb-false (a .place + 8) (length (a .file .now)) (sym (c .before .is-whole .ensures) ∙ c .if1 .left) in
     sym (fault-short (ruleOf (a .section) (a .below)) (a .file .now) (a .place) (a .j) short)

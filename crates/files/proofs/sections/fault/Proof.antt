@@ -18,7 +18,7 @@ field-fault-requires : tie.Need-field-fault-requires
 field-fault-requires c κs = search needs
 
 returns : tie.Need-returns
-returns c = 
+returns c =
     let a = c .before .before .args in
     c .field-fault .ensures ∙ ap (λ (w : ℕ). faultOf (a .section) (a .below) (a .j % w) (a .word)) (c .before .width .ensures)
 

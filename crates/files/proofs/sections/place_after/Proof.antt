@@ -26,7 +26,7 @@ add-result-2 : tie.Need-add-result-2
 add-result-2 c = omega (arith, few c)
 
 returns : tie.Need-returns
-returns c = 
+returns c =
     let a = c .before .args in
     ap (λ (w : ℕ). a .place + 8 + 8 * (a .count * w)) (c .width .ensures)
 

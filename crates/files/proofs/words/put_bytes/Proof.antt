@@ -12,7 +12,7 @@ use Rattle.files.proofs.words.put_bytes.Statement.{statement}
 use Rattle.files.proofs.words.put_bytes.Tie as tie
 
 abbrev Inv-loop : tie.InvT-loop
-Inv-loop room₀ place word rest₀ left₀ room rest left = 
+Inv-loop room₀ place word rest₀ left₀ room rest left =
     (left ≤ 8) × (length room ≡ length room₀) × (put room (place + (8 - left)) (bytesOf left rest) ≡ put room₀ place (bytesOf 8 word))
 
 abbrev μ-loop : tie.MeasureT-loop
@@ -40,7 +40,7 @@ loop-less : tie.Need-loop-less Inv-loop μ-loop
 loop-less c = search needs
 
 loop-again : tie.Need-loop-again Inv-loop μ-loop
-loop-again c = 
+loop-again c =
     let l = c .before .loop in
     let at = c .before .before .args .place + (8 - l .left) in
     let next : at + 1 ≡ c .before .before .args .place + (8 - (l .left - 1)) = omega arith in
@@ -57,7 +57,7 @@ same-length c = search needs
 
 returns : tie.Need-returns Inv-loop μ-loop
 unfolding bytesOf
-returns c = 
+returns c =
     let l = c .before .loop in
     let none : l .left ≡ 0 = omega arith in
     sym (put-nothing (l .room) (c .before .before .args .place + 8) (omega arith))

@@ -26,7 +26,7 @@ same-length-2 c = search needs
 
 returns-2 : tie.Need-returns-2
 unfolding bytesOf
-returns-2 c = 
+returns-2 c =
     let a = c .before .before .before .before .args in
     sym (put-outside (a .room .now) (bytesOf 8 (a .word)) (a .place) (leb-false (c .before .before .before .before .args .place + 8) (length (c .before .before .before .before .args .room .now)) (sym (c .before .is-whole .ensures) ∙ c .if1 .left)))
 

@@ -15,13 +15,13 @@ whole-word-requires : tie.Need-whole-word-requires
 whole-word-requires c κs = leb-true (c .before .before .before .args .place + 8) (length (c .before .before .before .args .file .now)) (sym (c .before .is-whole .ensures) ∙ c .if1 .taken)
 
 returns : tie.Need-returns
-returns c = 
+returns c =
     let a = c .before .before .before .before .args in
     c .whole-word .ensures
     ∙ sym (word-whole (a .file .now) (a .place) (leb-true (c .before .before .before .before .args .place + 8) (length (c .before .before .before .before .args .file .now)) (sym (c .before .before .is-whole .ensures) ∙ c .before .if1 .taken)))
 
 returns-2 : tie.Need-returns-2
-returns-2 c = 
+returns-2 c =
     let a = c .before .before .before .args in
     sym (word-missing (a .file .now) (a .place) (leb-false (c .before .before .before .args .place + 8) (length (c .before .before .before .args .file .now)) (sym (c .before .is-whole .ensures) ∙ c .if1 .left)))
 
