@@ -9,7 +9,7 @@ use Rattle.files.specs.declared.sections.Section.{Section}
 use Rattle.files.specs.declared.sections.Section.the-variants.{Centres, States, Requests}
 use Rattle.files.specs.declared.sections.Check.{Check}
 use Rattle.files.specs.declared.sections.Check.the-variants.{Sound}
-use Rattle.files.specs.Words.{wordAt, wordsFrom}
+use Rattle.runs.specs.Words.{wordAt, wordsFrom}
 use Rattle.files.specs.Sections.{widthOf, limitOf, statesPlace, requestsPlace, endPlace, ruleOf, need, _⟫_, walk}
 use Rattle.files.specs.Reader.{editionCheck, countCheck, sectionCheck, requestsCheck, statesCheck, centresCheck, fileCheck}
 use Rattle.files.proofs.CheckLaws.{both, needed}

@@ -1,5 +1,3 @@
-pub mod WordLaws
-pub mod PutLaws
 pub mod CheckLaws
 pub mod RecordLaws
 pub mod WalkLaws

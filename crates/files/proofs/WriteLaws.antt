@@ -10,11 +10,11 @@ use Rattle.files.specs.declared.sections.Section.{Section}
 use Rattle.files.specs.declared.sections.Section.the-variants.{Centres, States, Requests}
 use Rattle.files.specs.declared.sections.Check.{Check}
 use Rattle.files.specs.declared.sections.Check.the-variants.{Sound}
-use Rattle.files.specs.Words.{bytesOf, written, put}
+use Rattle.runs.specs.Words.{bytesOf, written, put}
 use Rattle.files.specs.Sections.{widthOf, limitOf, statesPlace, requestsPlace, _⟫_}
 use Rattle.files.specs.Writer.{recordsIn, wholeChecks, limitChecks, numberChecks, roomCheck, lengthOf, refusalOf, sectionWords, fileWords, fileOf, Within, Fits}
-use Rattle.files.proofs.WordLaws.{length-written, written-append}
-use Rattle.files.proofs.PutLaws.{put-next}
+use Rattle.runs.proofs.WordLaws.{length-written, written-append}
+use Rattle.runs.proofs.PutLaws.{put-next}
 use Rattle.files.proofs.CheckLaws.{both, needed}
 
 -- ---- What a sound judgement tells.

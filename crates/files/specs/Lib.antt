@@ -1,5 +1,4 @@
 -- Layer 5: the element file. Read the files in this order.
-pub mod Words
 pub mod Sections
 pub mod Reader
 pub mod Writer

@@ -13,7 +13,7 @@ use Rattle.files.specs.declared.sections.Check.the-variants.{Sound, Faul
 use Rattle.files.specs.declared.reader.Places.{Places}
 use Rattle.files.specs.declared.reader.Reading.{Reading}
 use Rattle.files.specs.declared.reader.Reading.the-variants.{Sections, Refused}
-use Rattle.files.specs.Words.{wordAt, wordsFrom}
+use Rattle.runs.specs.Words.{wordAt, wordsFrom}
 use Rattle.files.specs.Sections.{widthOf, limitOf, statesPlace, requestsPlace, endPlace, ruleOf, need, _⟫_, walk}
 
 -- The edition, 1, is the first word.

@@ -12,7 +12,7 @@ use Rattle.files.specs.declared.sections.Check.{Check}
 use Rattle.files.specs.declared.sections.Check.the-variants.{Sound, Fault}
 use Rattle.files.specs.declared.writer.Writing.{Writing}
 use Rattle.files.specs.declared.writer.Writing.the-variants.{Length, Refused}
-use Rattle.files.specs.Words.{written, put}
+use Rattle.runs.specs.Words.{written, put}
 use Rattle.files.specs.Sections.{widthOf, limitOf, statesPlace, requestsPlace, endPlace, ruleOf, need, _⟫_, walk}
 
 -- The records in so many words of a section.

@@ -1,7 +1,7 @@
 // The reader: walks an element file forward and answers where its sections stand, or the first fault.
 ghost use mathlib.Core.Path.{_≡_};
 ghost use Prim.Native.Nat.{_+_, _*_, _≤_};
-ghost use Rattle.files.specs.Words.{wordsFrom};
+ghost use Rattle.runs.specs.Words.{wordsFrom};
 ghost use Rattle.files.specs.Sections.{ruleOf, walk};
 ghost use Rattle.files.specs.Reader.{wordFault, editionCheck, countCheck, sectionCheck, requestsCheck, statesCheck, centresCheck, fileCheck, sectionsOf, readingOf};
 use super::sections::Check;
@@ -14,8 +14,8 @@ use super::sections::need;
 use super::sections::requests_place;
 use super::sections::states_place;
 use super::sections::width;
-use super::words::is_whole;
-use super::words::word_at;
+use runs::is_whole;
+use runs::word_at;
 
 // A section of a file: the place of its count word, and the count.
 pub struct Located {

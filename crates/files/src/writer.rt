@@ -2,7 +2,7 @@
 ghost use mathlib.Core.Path.{_≡_};
 ghost use Prim.Native.Nat.{_+_, _*_, _≤_};
 ghost use lib.ListN.{length};
-ghost use Rattle.files.specs.Words.{put, written};
+ghost use Rattle.runs.specs.Words.{put, written};
 ghost use Rattle.files.specs.Sections.{ruleOf, walk};
 ghost use Rattle.files.specs.Writer.{recordsIn, wholeCheck, wholeChecks, limitCheck, limitChecks, numberChecks, roomCheck, lengthOf, Within, Fits, refusalOf, sectionWords, fileOf, writingOf, roomOf};
 use super::sections::Check;
@@ -15,8 +15,8 @@ use super::sections::need;
 use super::sections::requests_place;
 use super::sections::states_place;
 use super::sections::width;
-use super::words::put_word;
-use super::words::put_words;
+use runs::put_word;
+use runs::put_words;
 
 // What the writer answers: the length of the file that it wrote, or a refusal, and then it wrote nothing.
 pub enum Writing {

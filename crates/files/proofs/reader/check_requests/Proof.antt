@@ -5,7 +5,7 @@ use mathlib.Core.Path.{_≡_, sym, ap, ap₂, _∙_}
 use lib.Dec.{leb}
 use lib.ListN.{length}
 use Rattle.files.specs.declared.sections.Section.the-variants.{Requests}
-use Rattle.files.specs.Words.{wordAt}
+use Rattle.runs.specs.Words.{wordAt}
 use Rattle.files.specs.Sections.{endPlace, need}
 use Rattle.files.specs.Reader.{sectionCheck, requestsCheck}
 use Rattle.files.proofs.CheckLaws.{stops, goes-on}

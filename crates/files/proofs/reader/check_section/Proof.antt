@@ -3,7 +3,7 @@ use native.Mathlib.Omega.{arith}
 use borrow.Author.Needs.{needs}
 use Prim.Native.Nat.{ℕ, _+_, _*_, _≤_}
 use mathlib.Core.Path.{_≡_, sym, ap, ap₂, _∙_}
-use Rattle.files.specs.Words.{wordAt, wordsFrom}
+use Rattle.runs.specs.Words.{wordAt, wordsFrom}
 use Rattle.files.specs.Sections.{ruleOf, walk}
 use Rattle.files.specs.Reader.{sectionCheck}
 use Rattle.files.proofs.CheckLaws.{stops, goes-on}

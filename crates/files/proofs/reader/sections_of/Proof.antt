@@ -4,7 +4,7 @@ use Prim.Native.Nat.{ℕ}
 use mathlib.Core.Path.{_≡_, sym, ap, ap₂, _∙_}
 use mathlib.Core.List.{List}
 use Rattle.files.specs.declared.reader.Places.{Places}
-use Rattle.files.specs.Words.{wordAt}
+use Rattle.runs.specs.Words.{wordAt}
 use Rattle.files.specs.Sections.{statesPlace, requestsPlace}
 use Rattle.files.specs.Reader.{placesOf, sectionsOf}
 use Rattle.files.proofs.Accepted.{counts-within}

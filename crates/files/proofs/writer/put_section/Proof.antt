@@ -5,9 +5,9 @@ use Prim.Native.Nat.{ℕ, _+_}
 use mathlib.Core.Path.{sym, ap, _∙_}
 use mathlib.Core.List.{List}
 use lib.ListN.{length}
-use Rattle.files.specs.Words.{bytesOf, written, put}
+use Rattle.runs.specs.Words.{bytesOf, written, put}
 use Rattle.files.specs.Writer.{recordsIn}
-use Rattle.files.proofs.PutLaws.{first-put}
+use Rattle.runs.proofs.PutLaws.{first-put}
 use Rattle.files.proofs.writer.put_section.Statement.{statement}
 use Rattle.files.proofs.writer.put_section.Tie as tie
 

@@ -3,7 +3,7 @@ ghost use mathlib.Core.Path.{_≡_};
 ghost use Prim.Native.Nat.{_+_, _*_, _<_, _≤_};
 ghost use lib.Dec.{leb};
 ghost use lib.ListN.{length, take, drop};
-ghost use Rattle.files.specs.Words.{number, bytesOf, written, wordAt, put};
+ghost use Rattle.runs.specs.Words.{number, bytesOf, written, wordAt, put};
 
 // A byte as a word.
 fn wide(x: u8) -> u64

@@ -7,7 +7,7 @@ use mathlib.Core.List.{List, [], _∷_, _++_, append-assoc}
 use borrow.Author.Tests.{le-leb, lt-leb}
 use lib.ListN.{length, getD, take, drop, length-append, length-drop, take-append-drop}
 use lib.Seq.{take-at, drop-at, drop-cons, drop-drop, length-take-le}
-use Rattle.files.specs.Words.{number, bytesOf, written, words, wordsFrom, wordAt, Below}
+use Rattle.runs.specs.Words.{number, bytesOf, written, words, wordsFrom, wordAt, Below}
 
 -- ---- Numbers and bytes.
 

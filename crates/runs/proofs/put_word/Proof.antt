@@ -4,10 +4,10 @@ use Prim.Native.Nat.{_+_}
 use mathlib.Core.Path.{sym, ap, _∙_}
 use lib.ListN.{length}
 use borrow.Author.Tests.{leb-true, leb-false}
-use Rattle.files.specs.Words.{bytesOf}
-use Rattle.files.proofs.PutLaws.{put-outside}
-use Rattle.files.proofs.words.put_word.Statement.{statement}
-use Rattle.files.proofs.words.put_word.Tie as tie
+use Rattle.runs.specs.Words.{bytesOf}
+use Rattle.runs.proofs.PutLaws.{put-outside}
+use Rattle.runs.proofs.put_word.Statement.{statement}
+use Rattle.runs.proofs.put_word.Tie as tie
 
 is-whole-requires : tie.Need-is-whole-requires
 is-whole-requires c κs = search needs

@@ -5,10 +5,10 @@ use Prim.Native.Nat.{ℕ, suc, _+_, _-_, _*_, _^_, _<_, _≤_}
 use native.Mathlib.Nat.{add-zero}
 use mathlib.Core.Path.{_≡_, refl, sym, ap, ap₂, _∙_}
 use lib.ListN.{take, drop}
-use Rattle.files.specs.Words.{number}
-use Rattle.files.proofs.WordLaws.{below-of, below-drop, number-bound, lower-byte}
-use Rattle.files.proofs.words.whole_word.Statement.{statement}
-use Rattle.files.proofs.words.whole_word.Tie as tie
+use Rattle.runs.specs.Words.{number}
+use Rattle.runs.proofs.WordLaws.{below-of, below-drop, number-bound, lower-byte}
+use Rattle.runs.proofs.whole_word.Statement.{statement}
+use Rattle.runs.proofs.whole_word.Tie as tie
 
 abbrev Inv-loop : tie.InvT-loop
 Inv-loop file place word₀ left₀ word left = (left ≤ 8) × (word ≡ number (take (8 - left) (drop (place + left) file)))

@@ -6,10 +6,10 @@ use native.Mathlib.Nat.{add-zero}
 use mathlib.Core.Path.{_≡_, refl, sym, ap, _∙_}
 use mathlib.Core.List.{List, []}
 use lib.ListN.{length, set, length-set}
-use Rattle.files.specs.Words.{bytesOf, put}
-use Rattle.files.proofs.PutLaws.{put-nothing, lowest-stored}
-use Rattle.files.proofs.words.put_bytes.Statement.{statement}
-use Rattle.files.proofs.words.put_bytes.Tie as tie
+use Rattle.runs.specs.Words.{bytesOf, put}
+use Rattle.runs.proofs.PutLaws.{put-nothing, lowest-stored}
+use Rattle.runs.proofs.put_bytes.Statement.{statement}
+use Rattle.runs.proofs.put_bytes.Tie as tie
 
 abbrev Inv-loop : tie.InvT-loop
 Inv-loop room₀ place word rest₀ left₀ room rest left =

@@ -5,8 +5,8 @@ use Prim.Native.Nat.{_+_}
 use mathlib.Core.Path.{sym}
 use lib.ListN.{length}
 use borrow.Author.Tests.{le-leb, lt-leb}
-use Rattle.files.proofs.words.is_whole.Statement.{statement}
-use Rattle.files.proofs.words.is_whole.Tie as tie
+use Rattle.runs.proofs.is_whole.Statement.{statement}
+use Rattle.runs.proofs.is_whole.Tie as tie
 
 returns : tie.Need-returns
 returns c = sym (lt-leb (c .before .args .place + 8) (length (c .before .args .file .now)) (omega arith))

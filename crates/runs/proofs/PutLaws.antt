@@ -7,8 +7,8 @@ use mathlib.Core.List.{List, [], _∷_, _++_, append-assoc, append-nil}
 use borrow.Author.Tests.{le-leb, lt-leb}
 use lib.ListN.{length, take, drop, set, length-append, length-drop, take-append-drop}
 use lib.Seq.{take-at, drop-append-add, drop-drop, length-take-le, set-split}
-use Rattle.files.specs.Words.{put, bytesOf, written}
-use Rattle.files.proofs.WordLaws.{length-bytes, length-written}
+use Rattle.runs.specs.Words.{put, bytesOf, written}
+use Rattle.runs.proofs.WordLaws.{length-bytes, length-written}
 
 pub put-fits : (room bs : List ℕ) (place : ℕ) → place + length bs ≤ length room → put room place bs ≡ take place room ++ bs ++ drop (place + length bs) room
 unfolding put

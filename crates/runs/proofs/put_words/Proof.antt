@@ -2,11 +2,11 @@
 use native.Mathlib.Omega.{arith}
 use borrow.Author.Needs.{needs}
 use mathlib.Core.Path.{sym}
-use Rattle.files.specs.Words.{written}
-use Rattle.files.proofs.WordLaws.{length-written}
-use Rattle.files.proofs.PutLaws.{put-outside}
-use Rattle.files.proofs.words.put_words.Statement.{statement}
-use Rattle.files.proofs.words.put_words.Tie as tie
+use Rattle.runs.specs.Words.{written}
+use Rattle.runs.proofs.WordLaws.{length-written}
+use Rattle.runs.proofs.PutLaws.{put-outside}
+use Rattle.runs.proofs.put_words.Statement.{statement}
+use Rattle.runs.proofs.put_words.Tie as tie
 
 returns : tie.Need-returns
 returns c =

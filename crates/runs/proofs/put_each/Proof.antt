@@ -7,10 +7,10 @@ use mathlib.Core.Path.{_≡_, refl, sym, ap, ap₂, _∙_}
 use mathlib.Core.List.{List, []}
 use lib.ListN.{length, getD, drop, length-drop, drop-of-length-le}
 use lib.Seq.{drop-cons}
-use Rattle.files.specs.Words.{bytesOf, written, put}
-use Rattle.files.proofs.PutLaws.{put-nothing, first-put}
-use Rattle.files.proofs.words.put_each.Statement.{statement}
-use Rattle.files.proofs.words.put_each.Tie as tie
+use Rattle.runs.specs.Words.{bytesOf, written, put}
+use Rattle.runs.proofs.PutLaws.{put-nothing, first-put}
+use Rattle.runs.proofs.put_each.Statement.{statement}
+use Rattle.runs.proofs.put_each.Tie as tie
 
 one-more : (room : List ℕ) (place : ℕ) (run : List ℕ) (left : ℕ) → 0 < left → left ≤ length run → place + 8 * length run ≤ length room →
     put room (place + 8 * (length run - left)) (written (drop (length run - left) run))

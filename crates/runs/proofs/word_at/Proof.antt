@@ -4,9 +4,9 @@ use Prim.Native.Nat.{_+_}
 use mathlib.Core.Path.{sym, _∙_}
 use lib.ListN.{length}
 use borrow.Author.Tests.{leb-true, leb-false}
-use Rattle.files.proofs.WordLaws.{word-whole, word-missing}
-use Rattle.files.proofs.words.word_at.Statement.{statement}
-use Rattle.files.proofs.words.word_at.Tie as tie
+use Rattle.runs.proofs.WordLaws.{word-whole, word-missing}
+use Rattle.runs.proofs.word_at.Statement.{statement}
+use Rattle.runs.proofs.word_at.Tie as tie
 
 is-whole-requires : tie.Need-is-whole-requires
 is-whole-requires c κs = search needs
