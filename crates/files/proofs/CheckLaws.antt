@@ -25,6 +25,12 @@ pub both : (a b : Check) → (a ⟫ b) ≡ Sound → (a ≡ Sound) × (b ≡ Sou
 both Sound b e = (refl, e)
 both (Fault number place) b e = fault-is-not-sound e
 
+pub sound-both : (a b : Check) → a ≡ Sound → b ≡ Sound → (a ⟫ b) ≡ Sound
+sound-both a b p q = ap (λ (k : Check). k ⟫ b) p ∙ q
+
+pub sound-need : (holds : Bool) (number place : ℕ) → holds ≡ true → need holds number place ≡ Sound
+sound-need holds number place e = ap (λ (b : Bool). need b number place) e
+
 pub needed : (holds : Bool) (number place : ℕ) → need holds number place ≡ Sound → holds ≡ true
 needed true number place e = refl
 needed false number place e = fault-is-not-sound e

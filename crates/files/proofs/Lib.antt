@@ -3,3 +3,7 @@ pub mod RecordLaws
 pub mod WalkLaws
 pub mod Accepted
 pub mod WriteLaws
+pub mod SectionLaws
+pub mod FileLaws
+pub mod Laws
+pub mod OneAnswers

@@ -2,3 +2,5 @@
 pub mod Sections
 pub mod Reader
 pub mod Writer
+pub mod Held
+pub mod Cases

@@ -3,10 +3,12 @@ use Prim.Native.Nat.{ℕ, zero, suc, _+_, _-_, _*_, _/_, _%_, _^_, _<_, _≤_}
 use native.Mathlib.Nat.{add-zero, add-assoc, mul-zero}
 use native.Mathlib.Omega.{arith}
 use mathlib.Core.Path.{_≡_, refl, ap, ap₂, sym, _∙_}
-use mathlib.Core.List.{List, [], _∷_, _++_, append-assoc}
-use borrow.Author.Tests.{le-leb, lt-leb}
+use mathlib.Core.List.{List, [], _∷_, _++_, append-assoc, append-nil}
+use mathlib.Core.Bool.{Bool, true, false}
+use borrow.Author.Tests.{leb-true, leb-false, le-leb, lt-leb}
+use lib.Dec.{leb}
 use lib.ListN.{length, getD, take, drop, length-append, length-drop, take-append-drop}
-use lib.Seq.{take-at, drop-at, drop-cons, drop-drop, length-take-le}
+use lib.Seq.{take-at, drop-at, drop-cons, drop-drop, getD-drop, length-take-le}
 use Rattle.runs.specs.Words.{number, bytesOf, written, words, wordsFrom, wordAt, Below}
 
 -- ---- Numbers and bytes.
@@ -119,3 +121,65 @@ pub lower-byte : (s : List ℕ) (place n : ℕ) → place < length s →
     number (take (suc n) (drop place s)) ≡ getD s place 0 + 256 * number (take n (drop (suc place) s))
 unfolding number
 lower-byte s place n h = rw (drop-cons s place 0) refl
+
+-- ---- The words of a file, all of them: how many there are, those further on, and each by its place.
+
+pub length-words : (n : ℕ) (s : List ℕ) → length (words n s) ≡ n
+unfolding words
+length-words zero s = refl
+length-words (suc n) s = ap suc (length-words n (drop 8 s))
+
+pub length-words-from : (file : List ℕ) (place : ℕ) → length (wordsFrom file place) ≡ (length file - place) / 8
+unfolding wordsFrom
+length-words-from file place = length-words ((length file - place) / 8) (drop place file)
+
+later-by : (file : List ℕ) (place n : ℕ) (b : Bool) → leb (place + 8) (length file) ≡ b →
+    wordsFrom file (place + 8 + 8 * n) ≡ drop n (wordsFrom file (place + 8)) →
+    wordsFrom file (place + 8 + 8 * n) ≡ drop (suc n) (wordsFrom file place)
+later-by file place n true e r = r ∙ ap (drop (suc n)) (sym (next-word file place (leb-true _ _ e)))
+later-by file place n false e r =
+    let short : length file < place + 8 = leb-false _ _ e in
+    no-word file (place + 8 + 8 * n) (omega arith) ∙ ap (drop (suc n)) (sym (no-word file place short))
+
+pub words-later : (file : List ℕ) (place n : ℕ) → wordsFrom file (place + 8 * n) ≡ drop n (wordsFrom file place)
+words-later file place zero = ap (wordsFrom file) (add-zero place)
+words-later file place (suc n) =
+    let further : place + 8 * suc n ≡ place + 8 + 8 * n = omega arith in
+    ap (wordsFrom file) further ∙ later-by file place n (leb (place + 8) (length file)) refl (words-later file (place + 8) n)
+
+first-word : (file : List ℕ) (place : ℕ) → getD (wordsFrom file place) 0 0 ≡ wordAt file place
+first-word file place = by (leb (place + 8) (length file)) refl
+  where
+    by : (b : Bool) → leb (place + 8) (length file) ≡ b → getD (wordsFrom file place) 0 0 ≡ wordAt file place
+    by true e = ap (λ (ws : List ℕ). getD ws 0 0) (next-word file place (leb-true _ _ e))
+    by false e = ap (λ (ws : List ℕ). getD ws 0 0) (no-word file place (leb-false _ _ e)) ∙ sym (word-missing file place (leb-false _ _ e))
+
+pub word-of-words : (file : List ℕ) (place i : ℕ) → getD (wordsFrom file place) i 0 ≡ wordAt file (place + 8 * i)
+word-of-words file place i =
+    ap (λ (k : ℕ). getD (wordsFrom file place) k 0) (sym (add-zero i))
+    ∙ sym (getD-drop i (wordsFrom file place) 0 0)
+    ∙ ap (λ (ws : List ℕ). getD ws 0 0) (sym (words-later file place i))
+    ∙ first-word file (place + 8 * i)
+
+pub words-below : (n : ℕ) (s : List ℕ) → Below 256 s → Below (2 ^ 64) (words n s)
+unfolding words
+words-below zero s h = tt
+words-below (suc n) s h = (number-bound 8 8 s h (omega arith), words-below n (drop 8 s) (below-drop 256 8 s h))
+
+-- Words written after others read back from where they stand.
+pub words-after : (pre post : List ℕ) → Below (2 ^ 64) post → wordsFrom (written (pre ++ post)) (8 * length pre) ≡ post
+unfolding wordsFrom
+words-after pre post h =
+    let file = written (pre ++ post) in
+    let split : file ≡ written pre ++ written post = written-append pre post in
+    let front : length (written pre) ≡ 8 * length pre = length-written pre in
+    let many : (length file - 8 * length pre) / 8 ≡ length post = omega (arith, length-written (pre ++ post), length-append pre post) in
+    ap₂ words many (ap (drop (8 * length pre)) split ∙ drop-at (written pre) (written post) (8 * length pre) front ∙ sym (append-nil (written post)))
+    ∙ words-written post [] h
+
+-- A file of whole words is its words.
+pub whole-file : (file : List ℕ) (n : ℕ) → Below 256 file → length file ≡ 8 * n → written (wordsFrom file 0) ≡ file
+unfolding wordsFrom
+whole-file file n h e =
+    let many : (length file - 0) / 8 ≡ n = omega arith in
+    ap (λ (k : ℕ). written (words k file)) many ∙ written-words n file h e
