@@ -3,14 +3,13 @@ use Prim.Native.Nat.{ℕ, _+_, _*_, _≤_}
 use mathlib.Core.Path.{_≡_}
 use mathlib.Core.List.{List}
 use borrow.Author.Tests.{leb-true, eqb-true}
-use lib.Dec.{leb, eqb}
+use lib.Dec.{leb}
 use lib.ListN.{length}
+use Rattle.runs.specs.Words.{wordAt, wordsFrom}
 use Rattle.files.specs.declared.sections.Section.{Section}
 use Rattle.files.specs.declared.sections.Section.the-variants.{Centres, States, Requests}
-use Rattle.files.specs.declared.sections.Check.{Check}
 use Rattle.files.specs.declared.sections.Check.the-variants.{Sound}
-use Rattle.runs.specs.Words.{wordAt, wordsFrom}
-use Rattle.files.specs.Sections.{widthOf, limitOf, statesPlace, requestsPlace, endPlace, ruleOf, need, _⟫_, walk}
+use Rattle.files.specs.Sections.{widthOf, limitOf, statesPlace, requestsPlace, endPlace, ruleOf, need, walk}
 use Rattle.files.specs.Reader.{editionCheck, countCheck, sectionCheck, requestsCheck, statesCheck, centresCheck, fileCheck}
 use Rattle.files.proofs.CheckLaws.{both, needed}
 

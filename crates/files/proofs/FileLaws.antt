@@ -1,8 +1,7 @@
 -- Three sound sections: what the reader accepts is made of them, what the writer accepts is three of them, and each goes over into the other.
-use Prim.Native.Nat.{ℕ, suc, _+_, _-_, _*_, _/_, _%_, _^_, _<_, _≤_}
-use native.Mathlib.Nat.{add-zero}
+use Prim.Native.Nat.{ℕ, _+_, _*_, _%_, _^_, _≤_}
 use native.Mathlib.Omega.{arith}
-use mathlib.Core.Path.{_≡_, refl, ap, ap₂, sym, _∙_}
+use mathlib.Core.Path.{_≡_, ap, ap₂, sym, _∙_}
 use mathlib.Core.List.{List, [], _∷_, _++_, append-assoc, append-nil}
 use borrow.Author.Tests.{le-leb, eq-eqb}
 use lib.ListN.{length, length-append}
@@ -12,9 +11,9 @@ use Rattle.files.specs.declared.sections.Section.{Section}
 use Rattle.files.specs.declared.sections.Section.the-variants.{Centres, States, Requests}
 use Rattle.files.specs.declared.sections.Check.{Check}
 use Rattle.files.specs.declared.sections.Check.the-variants.{Sound}
-use Rattle.files.specs.Sections.{widthOf, limitOf, statesPlace, requestsPlace, endPlace, _⟫_}
-use Rattle.files.specs.Reader.{editionCheck, requestsCheck, statesCheck, centresCheck, fileCheck, sectionCheck, endCheck}
-use Rattle.files.specs.Writer.{recordsIn, wholeCheck, wholeChecks, limitCheck, limitChecks, numberCheck, numberChecks, roomCheck, lengthOf, refusalOf, sectionWords, fileWords, fileOf}
+use Rattle.files.specs.Sections.{widthOf, statesPlace, requestsPlace, endPlace}
+use Rattle.files.specs.Reader.{editionCheck, requestsCheck, statesCheck, centresCheck, fileCheck, sectionCheck}
+use Rattle.files.specs.Writer.{recordsIn, wholeCheck, wholeChecks, laterLimits, limitChecks, numberCheck, numberChecks, lengthOf, refusalWithin, refusalWhole, refusalOf, sectionWords, fileWords, fileOf}
 use Rattle.files.proofs.CheckLaws.{both, sound-both, sound-need}
 use Rattle.files.proofs.Accepted.{edition-sound, centres-sound, states-sound, requests-sound, nothing-left}
 use Rattle.files.proofs.RecordLaws.{limit-bound}
@@ -56,7 +55,7 @@ module _ (C S R : List ℕ) (c s r : ℕ) (p : ProperFile C S R c s r) where
   wholes = sound-both _ _ (whole Centres 0 (p .first)) (sound-both _ _ (whole States 1 (p .second)) (whole Requests 2 (p .third)))
 
   limits : limitChecks c s r ≡ Sound
-  unfolding limitChecks
+  unfolding limitChecks laterLimits
   limits =
       sound-both _ _ (sound-need _ 23 8 (le-leb _ _ (p .first .few)))
       (sound-both _ _ (sound-need _ 23 (statesPlace c) (le-leb _ _ (p .second .few)))
@@ -73,7 +72,7 @@ module _ (C S R : List ℕ) (c s r : ℕ) (p : ProperFile C S R c s r) where
   proper-length = omega (arith, ec, es, er)
 
   pub proper-accepted : (room : ℕ) → endPlace c s r ≤ room → refusalOf C S R room ≡ Sound
-  unfolding refusalOf
+  unfolding refusalOf refusalWhole refusalWithin
   proper-accepted room h =
       let enough : lengthOf (length C) (length S) (length R) ≤ room = omega (arith, proper-length) in
       sound-both _ _ wholes

@@ -4,7 +4,7 @@ use native.Mathlib.Omega.{arith}
 use mathlib.Core.Path.{_≡_, refl, ap, ap₂, sym, subst, _∙_}
 use mathlib.Core.List.{List, _++_}
 use lib.ListN.{length, take, drop}
-use lib.Seq.{take-at, take-length}
+use lib.Seq.{take-at}
 use Rattle.runs.specs.Words.{wordAt, put, wordsFrom, Below}
 use Rattle.runs.proofs.WordLaws.{words-below, below-take, below-drop}
 use Rattle.runs.proofs.PutLaws.{put-fits}
@@ -16,7 +16,6 @@ use Rattle.files.specs.declared.reader.Located.{Located}
 use Rattle.files.specs.declared.reader.Places.{Places}
 use Rattle.files.specs.declared.reader.Reading.{Reading}
 use Rattle.files.specs.declared.reader.Reading.the-variants.{Sections, Refused}
-use Rattle.files.specs.declared.writer.Writing.{Writing}
 use Rattle.files.specs.declared.writer.Writing.the-variants.{Length}
 use Rattle.files.specs.Sections.{widthOf, statesPlace, requestsPlace, endPlace}
 use Rattle.files.specs.Reader.{fileCheck, placesOf, sectionsOf, readingBy, readingOf}

@@ -9,12 +9,12 @@ use borrow.Author.Tests.{leb-true, leb-false, le-leb, lt-leb}
 use lib.Dec.{leb}
 use lib.ListN.{length, getD, drop}
 use lib.Seq.{drop-cons}
+use Rattle.runs.specs.Words.{wordAt, wordsFrom}
+use Rattle.runs.proofs.WordLaws.{next-word, no-word}
 use Rattle.files.specs.declared.sections.Check.{Check}
 use Rattle.files.specs.declared.sections.Check.the-variants.{Sound, Fault}
-use Rattle.runs.specs.Words.{wordAt, wordsFrom}
 use Rattle.files.specs.Sections.{told, _⟫_, walk}
 use Rattle.files.specs.Reader.{wordFault}
-use Rattle.runs.proofs.WordLaws.{next-word, no-word}
 
 told-fault : (number place : ℕ) → (number ≡ 0 → ⊥) → told number place ≡ Fault number place
 told-fault zero place h = absurd (h refl)

@@ -1,48 +1,42 @@
 -- The writer's judgement taken apart, and its stores put together.
-use Prim.Native.Nat.{ℕ, _+_, _*_, _/_, _%_, _≤_}
+use Prim.Native.Nat.{ℕ, _+_, _*_, _≤_}
 use native.Mathlib.Omega.{arith}
 use mathlib.Core.Path.{_≡_, refl, ap, sym, _∙_}
 use mathlib.Core.List.{List, [], _∷_, _++_}
 use borrow.Author.Tests.{leb-true, eqb-true}
-use lib.Dec.{leb}
 use lib.ListN.{length, length-append}
-use Rattle.files.specs.declared.sections.Section.{Section}
-use Rattle.files.specs.declared.sections.Section.the-variants.{Centres, States, Requests}
-use Rattle.files.specs.declared.sections.Check.{Check}
-use Rattle.files.specs.declared.sections.Check.the-variants.{Sound}
 use Rattle.runs.specs.Words.{bytesOf, written, put}
-use Rattle.files.specs.Sections.{widthOf, limitOf, statesPlace, requestsPlace, _⟫_}
-use Rattle.files.specs.Writer.{recordsIn, wholeChecks, limitChecks, numberChecks, roomCheck, lengthOf, refusalOf, sectionWords, fileWords, fileOf, Within, Fits}
 use Rattle.runs.proofs.WordLaws.{length-written, written-append}
 use Rattle.runs.proofs.PutLaws.{put-next}
+use Rattle.files.specs.declared.sections.Section.the-variants.{Centres, States, Requests}
+use Rattle.files.specs.declared.sections.Check.the-variants.{Sound}
+use Rattle.files.specs.Sections.{limitOf, statesPlace, requestsPlace}
+use Rattle.files.specs.Writer.{recordsIn, wholeChecks, laterLimits, limitChecks, numberChecks, roomCheck, lengthOf, refusalWithin, refusalWhole, refusalOf, sectionWords, fileWords, fileOf, Fits}
 use Rattle.files.proofs.CheckLaws.{both, needed}
 
 -- ---- What a sound judgement tells.
 
 pub limits-sound : (centres states requests : ℕ) → limitChecks centres states requests ≡ Sound →
     (centres ≤ limitOf Centres) × (states ≤ limitOf States) × (requests ≤ limitOf Requests)
-unfolding limitChecks
+unfolding limitChecks laterLimits
 limits-sound centres states requests e =
     let b = both _ _ e in
     let d = both _ _ (b .1) in
     (leb-true _ _ (needed _ _ _ (b .0)), leb-true _ _ (needed _ _ _ (d .0)), leb-true _ _ (needed _ _ _ (d .1)))
 
 module _ (centres states requests : List ℕ) (room : ℕ) (sound : refusalOf centres states requests room ≡ Sound) where
-  abbrev limits : Check
-  limits = limitChecks (recordsIn Centres (length centres)) (recordsIn States (length states)) (recordsIn Requests (length requests))
-
-  abbrev fit : Check
-  fit = roomCheck (lengthOf (length centres) (length states) (length requests)) room
-
-  past-27 : (wholeChecks (length centres) (length states) (length requests) ≡ Sound) × ((limits ⟫ numberChecks centres states requests ⟫ fit) ≡ Sound)
+  past-27 : (wholeChecks (length centres) (length states) (length requests) ≡ Sound) × (refusalWhole centres states requests room ≡ Sound)
   unfolding refusalOf
   past-27 = both _ _ sound
 
-  past-23 : (limits ≡ Sound) × ((numberChecks centres states requests ⟫ fit) ≡ Sound)
-  past-23 = both limits (numberChecks centres states requests ⟫ fit) (past-27 .1)
+  past-23 : (limitChecks (recordsIn Centres (length centres)) (recordsIn States (length states)) (recordsIn Requests (length requests)) ≡ Sound)
+      × (refusalWithin centres states requests room ≡ Sound)
+  unfolding refusalWhole
+  past-23 = both _ _ (past-27 .1)
 
-  past-24 : (numberChecks centres states requests ≡ Sound) × (fit ≡ Sound)
-  past-24 = both (numberChecks centres states requests) fit (past-23 .1)
+  past-24 : (numberChecks centres states requests ≡ Sound) × (roomCheck (lengthOf (length centres) (length states) (length requests)) room ≡ Sound)
+  unfolding refusalWithin
+  past-24 = both _ _ (past-23 .1)
 
   pub numbers-sound : numberChecks centres states requests ≡ Sound
   numbers-sound = past-24 .0

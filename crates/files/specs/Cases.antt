@@ -1,9 +1,9 @@
 -- Small files, read and written by computing.
-use mathlib.Core.Path.{_≡_, refl}
 use Prim.Native.Nat.{ℕ}
+use mathlib.Core.Path.{_≡_, refl}
 use mathlib.Core.List.{List, [], _∷_, _++_}
 use lib.ListN.{replicate}
-use Rattle.runs.specs.Words.{bytesOf, written}
+use Rattle.runs.specs.Words.{written}
 use Rattle.files.specs.declared.reader.Reading.{Reading}
 use Rattle.files.specs.declared.reader.Reading.the-variants as reading
 use Rattle.files.specs.declared.writer.Writing.{Writing}

@@ -6,6 +6,7 @@ use mathlib.Core.List.{List}
 use lib.Dec.{leb, eqb}
 use lib.ListN.{length}
 use Rattle.bits.specs.Choice.{pick}
+use Rattle.runs.specs.Words.{wordAt, wordsFrom}
 use Rattle.files.specs.declared.sections.Section.{Section}
 use Rattle.files.specs.declared.sections.Section.the-variants.{Centres, States, Requests}
 use Rattle.files.specs.declared.sections.Check.{Check}
@@ -13,7 +14,6 @@ use Rattle.files.specs.declared.sections.Check.the-variants.{Sound, Faul
 use Rattle.files.specs.declared.reader.Places.{Places}
 use Rattle.files.specs.declared.reader.Reading.{Reading}
 use Rattle.files.specs.declared.reader.Reading.the-variants.{Sections, Refused}
-use Rattle.runs.specs.Words.{wordAt, wordsFrom}
 use Rattle.files.specs.Sections.{widthOf, limitOf, statesPlace, requestsPlace, endPlace, ruleOf, need, _⟫_, walk}
 
 -- The edition, 1, is the first word.

@@ -1,18 +1,18 @@
 -- Document 01: "The writer takes the three sections as runs of words, and refuses in this order: 27 a run isn't whole records, 23, 24, 26 fewer room bytes than
 -- the file needs. Under one number the first in file order counts. Its place is the first byte of that word in the file that would have been, for 27 the
 -- section (0 to 2), for 26 the length needed. Else it answers the length. Room beyond the file keeps its bytes."
-use Prim.Native.Nat.{ℕ, _+_, _*_, _/_, _%_, _≤_}
+use Prim.Native.Nat.{ℕ, _+_, _/_, _%_, _≤_}
 use mathlib.Core.Path.{_≡_}
 use mathlib.Core.List.{List, [], _∷_, _++_}
 use lib.Dec.{leb, eqb}
 use lib.ListN.{length}
+use Rattle.runs.specs.Words.{written, put}
 use Rattle.files.specs.declared.sections.Section.{Section}
 use Rattle.files.specs.declared.sections.Section.the-variants.{Centres, States, Requests}
 use Rattle.files.specs.declared.sections.Check.{Check}
 use Rattle.files.specs.declared.sections.Check.the-variants.{Sound, Fault}
 use Rattle.files.specs.declared.writer.Writing.{Writing}
 use Rattle.files.specs.declared.writer.Writing.the-variants.{Length, Refused}
-use Rattle.runs.specs.Words.{written, put}
 use Rattle.files.specs.Sections.{widthOf, limitOf, statesPlace, requestsPlace, endPlace, ruleOf, need, _⟫_, walk}
 
 -- The records in so many words of a section.
@@ -30,11 +30,12 @@ wholeChecks centres states requests = wholeCheck Centres 0 centres ⟫ wholeChec
 abbrev pub limitCheck : Section → ℕ → ℕ → Check
 limitCheck section place count = need (leb count (limitOf section)) 23 place
 
+unfoldable pub laterLimits : ℕ → ℕ → ℕ → Check
+laterLimits centres states requests = limitCheck States (statesPlace centres) states ⟫ limitCheck Requests (requestsPlace centres states) requests
+
 unfoldable pub limitChecks : ℕ → ℕ → ℕ → Check
-limitChecks centres states requests =
-    limitCheck Centres 8 centres
-    ⟫ limitCheck States (statesPlace centres) states
-    ⟫ limitCheck Requests (requestsPlace centres states) requests
+unfolding laterLimits
+limitChecks centres states requests = limitCheck Centres 8 centres ⟫ laterLimits centres states requests
 
 -- ---- 24: the walk of the reader, over the words that would follow each count word.
 abbrev pub numberCheck : Section → ℕ → ℕ → List ℕ → Check
@@ -56,17 +57,23 @@ lengthOf centres states requests = endPlace (recordsIn Centres centres) (records
 abbrev pub roomCheck : ℕ → ℕ → Check
 roomCheck length room = need (leb length room) 26 length
 
--- ---- "refuses in this order".
+-- ---- "refuses in this order: 27, .. 23, 24, 26": last to first, each before those already there.
+unfoldable pub refusalWithin : List ℕ → List ℕ → List ℕ → ℕ → Check
+unfolding numberChecks
+refusalWithin centres states requests room =
+    numberChecks centres states requests ⟫ roomCheck (lengthOf (length centres) (length states) (length requests)) room
+
+unfoldable pub refusalWhole : List ℕ → List ℕ → List ℕ → ℕ → Check
+unfolding limitChecks refusalWithin
+refusalWhole centres states requests room =
+    limitChecks (recordsIn Centres (length centres)) (recordsIn States (length states)) (recordsIn Requests (length requests))
+    ⟫ refusalWithin centres states requests room
+
 unfoldable pub refusalOf : List ℕ → List ℕ → List ℕ → ℕ → Check
-unfolding wholeChecks limitChecks numberChecks
+unfolding wholeChecks refusalWhole
 refusalOf centres states requests room =
-    let c = length centres in
-    let s = length states in
-    let r = length requests in
-    wholeChecks c s r
-    ⟫ limitChecks (recordsIn Centres c) (recordsIn States s) (recordsIn Requests r)
-    ⟫ numberChecks centres states requests
-    ⟫ roomCheck (lengthOf c s r) room
+    wholeChecks (length centres) (length states) (length requests)
+    ⟫ refusalWhole centres states requests room
 
 -- ---- The file: the edition, then each section after its count.
 abbrev pub sectionWords : Section → List ℕ → List ℕ

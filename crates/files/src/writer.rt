@@ -4,7 +4,7 @@ ghost use Prim.Native.Nat.{_+_, _*_, _≤_};
 ghost use lib.ListN.{length};
 ghost use Rattle.runs.specs.Words.{put, written};
 ghost use Rattle.files.specs.Sections.{ruleOf, walk};
-ghost use Rattle.files.specs.Writer.{recordsIn, wholeCheck, wholeChecks, limitCheck, limitChecks, numberChecks, roomCheck, lengthOf, Within, Fits, refusalOf, sectionWords, fileOf, writingOf, roomOf};
+ghost use Rattle.files.specs.Writer.{recordsIn, wholeCheck, wholeChecks, limitCheck, laterLimits, limitChecks, numberChecks, roomCheck, lengthOf, Within, Fits, refusalWithin, refusalWhole, refusalOf, sectionWords, fileOf, writingOf, roomOf};
 use super::sections::Check;
 use super::sections::Section;
 use super::sections::end_place;
@@ -57,18 +57,26 @@ fn check_limit(section: Section, place: usize, count: usize) -> Check
     need(count <= limit(section), 23, place)
 }
 
+// Of the states and the requests, where the centres are within theirs.
+fn check_later_limits(centres: usize, states: usize, requests: usize) -> Check
+    requires { ⌜ centres ≤ 16 ⌝ }
+    ensures { λ r. ⌜ r ≡ laterLimits centres states requests ⌝ }
+{
+    let found = check_limit(Section::States, states_place(centres), states);
+    let Check::Sound = found else {
+        return found;
+    };
+    check_limit(Section::Requests, requests_place(centres, states), requests)
+}
+
 fn check_limits(centres: usize, states: usize, requests: usize) -> Check
     ensures { λ r. ⌜ r ≡ limitChecks centres states requests ⌝ }
 {
-    let one = check_limit(Section::Centres, 8, centres);
-    let Check::Sound = one else {
-        return one;
+    let found = check_limit(Section::Centres, 8, centres);
+    let Check::Sound = found else {
+        return found;
     };
-    let two = check_limit(Section::States, states_place(centres), states);
-    let Check::Sound = two else {
-        return two;
-    };
-    check_limit(Section::Requests, requests_place(centres, states), requests)
+    check_later_limits(centres, states, requests)
 }
 
 // The walk over a run whose first word would stand at a place.
@@ -127,29 +135,42 @@ fn check_room(length: usize, room: usize) -> Check
     need(length <= room, 26, length)
 }
 
-// The first refusal of the writer, if any.
+// 24, then 26.
+fn judge_within(centres: &[u64], states: &[u64], requests: &[u64], room: usize) -> Check
+    requires { ⌜ Within (length (now centres)) (length (now states)) (length (now requests)) ⌝ }
+    ensures { λ r. ⌜ r ≡ refusalWithin (now (centres .entry)) (now (states .entry)) (now (requests .entry)) room ⌝ }
+{
+    let needed = file_length(centres.len(), states.len(), requests.len());
+    first(
+        check_numbers(centres, states, requests),
+        check_room(needed, room),
+    )
+}
+
+// 23, then those.
+fn judge_whole(centres: &[u64], states: &[u64], requests: &[u64], room: usize) -> Check
+    ensures { λ r. ⌜ r ≡ refusalWhole (now (centres .entry)) (now (states .entry)) (now (requests .entry)) room ⌝ }
+{
+    let found = check_limits(
+        records(Section::Centres, centres.len()),
+        records(Section::States, states.len()),
+        records(Section::Requests, requests.len()),
+    );
+    let Check::Sound = found else {
+        return found;
+    };
+    judge_within(centres, states, requests, room)
+}
+
+// 27, then those: the first refusal of the writer, if any.
 fn judge(centres: &[u64], states: &[u64], requests: &[u64], room: usize) -> Check
     ensures { λ r. ⌜ r ≡ refusalOf (now (centres .entry)) (now (states .entry)) (now (requests .entry)) room ⌝ }
 {
-    let c = centres.len();
-    let s = states.len();
-    let r = requests.len();
-    let wholes = check_wholes(c, s, r);
-    let Check::Sound = wholes else {
-        return wholes;
+    let found = check_wholes(centres.len(), states.len(), requests.len());
+    let Check::Sound = found else {
+        return found;
     };
-    let limits = check_limits(
-        records(Section::Centres, c),
-        records(Section::States, s),
-        records(Section::Requests, r),
-    );
-    let Check::Sound = limits else {
-        return limits;
-    };
-    first(
-        check_numbers(centres, states, requests),
-        check_room(file_length(c, s, r), room),
-    )
+    judge_whole(centres, states, requests, room)
 }
 
 // A section put at a place: its count, then its words.

@@ -1,10 +1,10 @@
 -- Eight bytes from the place on, with no sum that could wrap.
-use native.Mathlib.Omega.{arith}
-use borrow.Author.Needs.{needs}
 use Prim.Native.Nat.{_+_}
+use native.Mathlib.Omega.{arith}
 use mathlib.Core.Path.{sym}
-use lib.ListN.{length}
+use borrow.Author.Needs.{needs}
 use borrow.Author.Tests.{le-leb, lt-leb}
+use lib.ListN.{length}
 use Rattle.runs.proofs.is_whole.Statement.{statement}
 use Rattle.runs.proofs.is_whole.Tie as tie
 

@@ -1,10 +1,9 @@
 -- What is left to put, from here, equals what there was to put from the start.
-use native.Mathlib.Omega.{arith}
-use borrow.Author.Needs.{needs}
 use Prim.Native.Nat.{ℕ, _+_, _-_, _/_, _%_, _≤_}
+use native.Mathlib.Omega.{arith}
 use native.Mathlib.Nat.{add-zero}
 use mathlib.Core.Path.{_≡_, refl, sym, ap, _∙_}
-use mathlib.Core.List.{List, []}
+use borrow.Author.Needs.{needs}
 use lib.ListN.{length, set, length-set}
 use Rattle.runs.specs.Words.{bytesOf, put}
 use Rattle.runs.proofs.PutLaws.{put-nothing, lowest-stored}

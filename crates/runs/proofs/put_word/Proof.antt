@@ -1,9 +1,9 @@
 -- By whether there is room.
-use borrow.Author.Needs.{needs}
 use Prim.Native.Nat.{_+_}
-use mathlib.Core.Path.{sym, ap, _∙_}
-use lib.ListN.{length}
+use mathlib.Core.Path.{sym, _∙_}
+use borrow.Author.Needs.{needs}
 use borrow.Author.Tests.{leb-true, leb-false}
+use lib.ListN.{length}
 use Rattle.runs.specs.Words.{bytesOf}
 use Rattle.runs.proofs.PutLaws.{put-outside}
 use Rattle.runs.proofs.put_word.Statement.{statement}

@@ -1,7 +1,7 @@
 -- By whether there is room.
 use native.Mathlib.Omega.{arith}
-use borrow.Author.Needs.{needs}
 use mathlib.Core.Path.{sym}
+use borrow.Author.Needs.{needs}
 use Rattle.runs.specs.Words.{written}
 use Rattle.runs.proofs.WordLaws.{length-written}
 use Rattle.runs.proofs.PutLaws.{put-outside}

@@ -1,9 +1,9 @@
 -- The bytes from `left` on, the highest first; seven of them leave room for one more.
-use native.Mathlib.Omega.{arith}
-use borrow.Author.Needs.{needs}
 use Prim.Native.Nat.{ℕ, suc, _+_, _-_, _*_, _^_, _<_, _≤_}
+use native.Mathlib.Omega.{arith}
 use native.Mathlib.Nat.{add-zero}
 use mathlib.Core.Path.{_≡_, refl, sym, ap, ap₂, _∙_}
+use borrow.Author.Needs.{needs}
 use lib.ListN.{take, drop}
 use Rattle.runs.specs.Words.{number}
 use Rattle.runs.proofs.WordLaws.{below-of, below-drop, number-bound, lower-byte}

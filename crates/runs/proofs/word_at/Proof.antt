@@ -1,9 +1,9 @@
 -- By whether the word is whole.
-use borrow.Author.Needs.{needs}
 use Prim.Native.Nat.{_+_}
 use mathlib.Core.Path.{sym, _∙_}
-use lib.ListN.{length}
+use borrow.Author.Needs.{needs}
 use borrow.Author.Tests.{leb-true, leb-false}
+use lib.ListN.{length}
 use Rattle.runs.proofs.WordLaws.{word-whole, word-missing}
 use Rattle.runs.proofs.word_at.Statement.{statement}
 use Rattle.runs.proofs.word_at.Tie as tie

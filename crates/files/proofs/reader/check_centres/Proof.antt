@@ -1,6 +1,6 @@
 -- The section, then what follows it, which its count tells.
+use mathlib.Core.Path.{sym, ap, _∙_}
 use borrow.Author.Needs.{needs}
-use mathlib.Core.Path.{_≡_, sym, ap, ap₂, _∙_}
 use Rattle.files.specs.declared.sections.Section.the-variants.{Centres}
 use Rattle.files.specs.Reader.{centresCheck, statesCheck}
 use Rattle.files.proofs.CheckLaws.{stops, goes-on}

@@ -1,8 +1,8 @@
 -- The two checks, one after the other.
-use borrow.Author.Needs.{needs}
 use Prim.Native.Nat.{ℕ}
-use mathlib.Core.Path.{_≡_, sym, ap, ap₂, _∙_}
+use mathlib.Core.Path.{ap, ap₂, _∙_}
 use mathlib.Core.Bool.{Bool}
+use borrow.Author.Needs.{needs}
 use lib.Dec.{leb}
 use Rattle.files.specs.Sections.{need, _⟫_}
 use Rattle.files.specs.Reader.{countCheck}

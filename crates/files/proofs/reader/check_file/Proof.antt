@@ -1,6 +1,6 @@
 -- The edition, then the sections.
-use borrow.Author.Needs.{needs}
 use mathlib.Core.Path.{ap₂, _∙_}
+use borrow.Author.Needs.{needs}
 use Rattle.files.specs.Sections.{_⟫_}
 use Rattle.files.specs.Reader.{fileCheck}
 use Rattle.files.proofs.reader.check_file.Statement.{statement}

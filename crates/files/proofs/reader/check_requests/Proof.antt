@@ -1,11 +1,11 @@
 -- The section, then that nothing is left after it.
-use borrow.Author.Needs.{needs}
 use Prim.Native.Nat.{ℕ}
-use mathlib.Core.Path.{_≡_, sym, ap, ap₂, _∙_}
+use mathlib.Core.Path.{sym, ap, _∙_}
+use borrow.Author.Needs.{needs}
 use lib.Dec.{leb}
 use lib.ListN.{length}
-use Rattle.files.specs.declared.sections.Section.the-variants.{Requests}
 use Rattle.runs.specs.Words.{wordAt}
+use Rattle.files.specs.declared.sections.Section.the-variants.{Requests}
 use Rattle.files.specs.Sections.{endPlace, need}
 use Rattle.files.specs.Reader.{sectionCheck, requestsCheck}
 use Rattle.files.proofs.CheckLaws.{stops, goes-on}

@@ -1,8 +1,8 @@
 -- The count, then a walk over few words, since the count is within its limit.
-use native.Mathlib.Omega.{arith}
-use borrow.Author.Needs.{needs}
 use Prim.Native.Nat.{ℕ, _+_, _*_, _≤_}
-use mathlib.Core.Path.{_≡_, sym, ap, ap₂, _∙_}
+use native.Mathlib.Omega.{arith}
+use mathlib.Core.Path.{sym, ap₂, _∙_}
+use borrow.Author.Needs.{needs}
 use Rattle.runs.specs.Words.{wordAt, wordsFrom}
 use Rattle.files.specs.Sections.{ruleOf, walk}
 use Rattle.files.specs.Reader.{sectionCheck}

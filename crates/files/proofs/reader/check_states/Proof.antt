@@ -1,9 +1,9 @@
 -- The section, then what follows it, which its count tells.
-use borrow.Author.Needs.{needs}
 use Prim.Native.Nat.{ℕ}
-use mathlib.Core.Path.{_≡_, sym, ap, ap₂, _∙_}
-use Rattle.files.specs.declared.sections.Section.the-variants.{States}
+use mathlib.Core.Path.{sym, ap, _∙_}
+use borrow.Author.Needs.{needs}
 use Rattle.runs.specs.Words.{wordAt}
+use Rattle.files.specs.declared.sections.Section.the-variants.{States}
 use Rattle.files.specs.Reader.{sectionCheck, statesCheck, requestsCheck}
 use Rattle.files.proofs.CheckLaws.{stops, goes-on}
 use Rattle.files.proofs.Accepted.{count-within}

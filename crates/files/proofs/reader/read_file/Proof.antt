@@ -1,8 +1,8 @@
 -- The check decides.
-use borrow.Author.Needs.{needs}
 use mathlib.Core.Path.{sym, ap, _∙_}
-use Rattle.files.specs.Reader.{readingOf}
+use borrow.Author.Needs.{needs}
 use Rattle.files.specs.declared.reader.Reading.the-variants.{Sections}
+use Rattle.files.specs.Reader.{readingOf}
 use Rattle.files.proofs.reader.read_file.Statement.{statement}
 use Rattle.files.proofs.reader.read_file.Tie as tie
 

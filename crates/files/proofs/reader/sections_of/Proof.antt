@@ -1,12 +1,12 @@
 -- A sound file has its counts within their limits; each place follows from the counts before it.
-use borrow.Author.Needs.{needs}
 use Prim.Native.Nat.{ℕ}
-use mathlib.Core.Path.{_≡_, sym, ap, ap₂, _∙_}
+use mathlib.Core.Path.{_≡_, ap, ap₂, _∙_}
 use mathlib.Core.List.{List}
-use Rattle.files.specs.declared.reader.Places.{Places}
+use borrow.Author.Needs.{needs}
 use Rattle.runs.specs.Words.{wordAt}
+use Rattle.files.specs.declared.reader.Places.{Places}
 use Rattle.files.specs.Sections.{statesPlace, requestsPlace}
-use Rattle.files.specs.Reader.{placesOf, sectionsOf}
+use Rattle.files.specs.Reader.{sectionsOf}
 use Rattle.files.proofs.Accepted.{counts-within}
 use Rattle.files.proofs.reader.sections_of.Statement.{statement}
 use Rattle.files.proofs.reader.sections_of.Tie as tie

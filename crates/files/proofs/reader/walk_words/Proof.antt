@@ -1,8 +1,8 @@
 -- What the rest of the walk answers, from here, is what the whole walk answers from its start.
-use borrow.Author.Needs.{needs}
 use Prim.Native.Nat.{ℕ, _+_, _-_, _*_, _≤_}
 use native.Mathlib.Nat.{sub-self}
-use mathlib.Core.Path.{_≡_, sym, ap, ap₂, _∙_}
+use mathlib.Core.Path.{_≡_, sym, ap, _∙_}
+use borrow.Author.Needs.{needs}
 use Rattle.files.specs.declared.sections.Check.the-variants.{Fault}
 use Rattle.files.specs.Sections.{ruleOf}
 use Rattle.files.proofs.WalkLaws.{from, fileTail, file-from-start, file-stops, file-goes-on, walk-done}

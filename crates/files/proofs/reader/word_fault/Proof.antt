@@ -1,9 +1,9 @@
 -- By whether the word is whole.
+use Prim.Native.Nat.{_+_}
+use mathlib.Core.Path.{sym, ap, _∙_}
 use borrow.Author.Needs.{needs}
-use Prim.Native.Nat.{ℕ, _+_}
-use mathlib.Core.Path.{_≡_, sym, ap, ap₂, _∙_}
-use lib.ListN.{length}
 use borrow.Author.Tests.{leb-true, leb-false}
+use lib.ListN.{length}
 use Rattle.files.specs.Sections.{ruleOf}
 use Rattle.files.proofs.WalkLaws.{fault-whole, fault-short}
 use Rattle.files.proofs.reader.word_fault.Statement.{statement}

@@ -1,8 +1,8 @@
 -- The word's place in its record, by the width.
-use native.Mathlib.Omega.{arith}
-use borrow.Author.Needs.{needs}
 use Prim.Native.Nat.{ℕ, _%_}
-use mathlib.Core.Path.{_≡_, ap, _∙_}
+use native.Mathlib.Omega.{arith}
+use mathlib.Core.Path.{ap, _∙_}
+use borrow.Author.Needs.{needs}
 use Rattle.files.specs.Sections.{faultOf}
 use Rattle.files.proofs.RecordLaws.{width-bounds}
 use Rattle.files.proofs.sections.fault.Statement.{statement}

@@ -1,6 +1,5 @@
 -- By the section.
 use borrow.Author.Needs.{needs}
-use mathlib.Core.Path.{_≡_, ap, _∙_}
 use Rattle.files.proofs.sections.field_fault.Statement.{statement}
 use Rattle.files.proofs.sections.field_fault.Tie as tie
 

@@ -1,6 +1,5 @@
 -- By the first check.
 use borrow.Author.Needs.{needs}
-use mathlib.Core.Path.{_≡_, refl}
 use Rattle.files.proofs.sections.first.Statement.{statement}
 use Rattle.files.proofs.sections.first.Tie as tie
 

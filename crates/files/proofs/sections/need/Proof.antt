@@ -1,5 +1,4 @@
 -- By the test.
-use mathlib.Core.Path.{_≡_, refl}
 use Rattle.files.proofs.sections.need.Statement.{statement}
 use Rattle.files.proofs.sections.need.Tie as tie
 

@@ -1,8 +1,8 @@
 -- A section within its limit has few words.
-use native.Mathlib.Omega.{arith}
-use borrow.Author.Needs.{needs}
 use Prim.Native.Nat.{ℕ, _+_, _*_, _≤_}
-use mathlib.Core.Path.{_≡_, sym, ap, _∙_}
+use native.Mathlib.Omega.{arith}
+use mathlib.Core.Path.{ap}
+use borrow.Author.Needs.{needs}
 use Rattle.files.proofs.RecordLaws.{words-bound}
 use Rattle.files.proofs.sections.place_after.Statement.{statement}
 use Rattle.files.proofs.sections.place_after.Tie as tie

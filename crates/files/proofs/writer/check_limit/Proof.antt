@@ -1,7 +1,7 @@
 -- The test, at the section's limit.
-use borrow.Author.Needs.{needs}
 use Prim.Native.Nat.{ℕ}
 use mathlib.Core.Path.{ap, _∙_}
+use borrow.Author.Needs.{needs}
 use lib.Dec.{leb}
 use Rattle.files.specs.Sections.{need}
 use Rattle.files.proofs.writer.check_limit.Statement.{statement}

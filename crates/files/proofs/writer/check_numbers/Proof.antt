@@ -1,9 +1,8 @@
 -- The three walks, in file order.
+use Prim.Native.Nat.{ℕ}
+use mathlib.Core.Path.{ap, ap₂, _∙_}
 use borrow.Author.Needs.{needs}
-use Prim.Native.Nat.{ℕ, _+_}
-use mathlib.Core.Path.{_≡_, sym, ap, ap₂, _∙_}
-use lib.ListN.{length}
-use Rattle.files.specs.declared.sections.Section.the-variants.{Centres, States, Requests}
+use Rattle.files.specs.declared.sections.Section.the-variants.{States, Requests}
 use Rattle.files.specs.Sections.{statesPlace, requestsPlace, _⟫_}
 use Rattle.files.specs.Writer.{numberCheck, numberChecks}
 use Rattle.files.proofs.writer.check_numbers.Statement.{statement}

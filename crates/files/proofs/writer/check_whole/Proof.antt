@@ -1,8 +1,8 @@
 -- The test, at the section's width.
-use native.Mathlib.Omega.{arith}
-use borrow.Author.Needs.{needs}
 use Prim.Native.Nat.{ℕ, _%_}
+use native.Mathlib.Omega.{arith}
 use mathlib.Core.Path.{ap, _∙_}
+use borrow.Author.Needs.{needs}
 use lib.Dec.{eqb}
 use Rattle.files.specs.Sections.{need}
 use Rattle.files.proofs.RecordLaws.{width-bounds}

@@ -1,6 +1,6 @@
 -- The three checks, in file order.
-use borrow.Author.Needs.{needs}
 use mathlib.Core.Path.{ap₂, _∙_}
+use borrow.Author.Needs.{needs}
 use Rattle.files.specs.Sections.{_⟫_}
 use Rattle.files.specs.Writer.{wholeChecks}
 use Rattle.files.proofs.writer.check_wholes.Statement.{statement}

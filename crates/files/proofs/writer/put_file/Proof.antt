@@ -1,9 +1,9 @@
 -- The edition, then the sections, each right after the one before.
-use borrow.Author.Needs.{needs}
 use Prim.Native.Nat.{ℕ}
 use mathlib.Core.Path.{ap, ap₂, _∙_}
-use Rattle.files.specs.declared.sections.Section.the-variants.{States, Requests}
+use borrow.Author.Needs.{needs}
 use Rattle.runs.specs.Words.{written, put}
+use Rattle.files.specs.declared.sections.Section.the-variants.{States, Requests}
 use Rattle.files.specs.Sections.{statesPlace, requestsPlace}
 use Rattle.files.specs.Writer.{sectionWords}
 use Rattle.files.proofs.WriteLaws.{file-put}

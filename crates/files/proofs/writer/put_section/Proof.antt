@@ -1,13 +1,13 @@
 -- The count, and its words after it.
-use native.Mathlib.Omega.{arith}
-use borrow.Author.Needs.{needs}
 use Prim.Native.Nat.{ℕ, _+_}
+use native.Mathlib.Omega.{arith}
 use mathlib.Core.Path.{sym, ap, _∙_}
 use mathlib.Core.List.{List}
+use borrow.Author.Needs.{needs}
 use lib.ListN.{length}
 use Rattle.runs.specs.Words.{bytesOf, written, put}
-use Rattle.files.specs.Writer.{recordsIn}
 use Rattle.runs.proofs.PutLaws.{first-put}
+use Rattle.files.specs.Writer.{recordsIn}
 use Rattle.files.proofs.writer.put_section.Statement.{statement}
 use Rattle.files.proofs.writer.put_section.Tie as tie
 

@@ -1,8 +1,8 @@
 -- At the section's width.
-use native.Mathlib.Omega.{arith}
-use borrow.Author.Needs.{needs}
 use Prim.Native.Nat.{ℕ, _/_}
+use native.Mathlib.Omega.{arith}
 use mathlib.Core.Path.{ap}
+use borrow.Author.Needs.{needs}
 use Rattle.files.proofs.RecordLaws.{width-bounds}
 use Rattle.files.proofs.writer.records.Statement.{statement}
 use Rattle.files.proofs.writer.records.Tie as tie

@@ -1,9 +1,9 @@
 -- What the rest of the walk answers, from here, is what the whole walk answers from its start.
-use borrow.Author.Needs.{needs}
 use Prim.Native.Nat.{ℕ, _+_, _-_, _*_, _≤_}
 use native.Mathlib.Nat.{sub-self}
-use mathlib.Core.Path.{_≡_, sym, ap, ap₂, _∙_}
-use lib.ListN.{length, getD}
+use mathlib.Core.Path.{_≡_, sym, ap, _∙_}
+use borrow.Author.Needs.{needs}
+use lib.ListN.{length}
 use Rattle.files.specs.declared.sections.Check.the-variants.{Fault}
 use Rattle.files.specs.Sections.{ruleOf}
 use Rattle.files.proofs.WalkLaws.{from, runTail, run-from-start, run-stops, run-goes-on, walk-done}

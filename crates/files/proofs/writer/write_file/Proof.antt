@@ -1,6 +1,6 @@
 -- Judged first; the room changes only where nothing is refused.
-use borrow.Author.Needs.{needs}
 use mathlib.Core.Path.{sym, ap, _∙_}
+use borrow.Author.Needs.{needs}
 use lib.ListN.{length}
 use Rattle.files.specs.declared.writer.Writing.the-variants.{Length}
 use Rattle.files.specs.Writer.{writingOf, roomOf, Fits}
