@@ -45,7 +45,7 @@ module _ (file : List ℕ) (sound : fileCheck file ≡ Sound) where
   requests = wordAt file (requestsPlace centres states)
 
   whole : (editionCheck file ≡ Sound) × (centresCheck file ≡ Sound)
-  unfolding fileCheck
+  unfolding fileCheck centresCheck statesCheck requestsCheck
   whole = both _ _ sound
 
   from-centres : (sectionCheck file 8 Centres 0 ≡ Sound) × (statesCheck file centres ≡ Sound)

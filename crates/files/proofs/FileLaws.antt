@@ -55,7 +55,7 @@ module _ (C S R : List ℕ) (c s r : ℕ) (p : ProperFile C S R c s r) where
   wholes = sound-both _ _ (whole Centres 0 (p .first)) (sound-both _ _ (whole States 1 (p .second)) (whole Requests 2 (p .third)))
 
   limits : limitChecks c s r ≡ Sound
-  unfolding limitChecks laterLimits
+  unfolding limitChecks
   limits =
       sound-both _ _ (sound-need _ 23 8 (le-leb _ _ (p .first .few)))
       (sound-both _ _ (sound-need _ 23 (statesPlace c) (le-leb _ _ (p .second .few)))
@@ -72,7 +72,7 @@ module _ (C S R : List ℕ) (c s r : ℕ) (p : ProperFile C S R c s r) where
   proper-length = omega (arith, ec, es, er)
 
   pub proper-accepted : (room : ℕ) → endPlace c s r ≤ room → refusalOf C S R room ≡ Sound
-  unfolding refusalOf refusalWhole refusalWithin
+  unfolding refusalOf
   proper-accepted room h =
       let enough : lengthOf (length C) (length S) (length R) ≤ room = omega (arith, proper-length) in
       sound-both _ _ wholes
@@ -264,5 +264,5 @@ module _ (C S R : List ℕ) (c s r : ℕ) (p : ProperFile C S R c s r) (bc : Bel
       (ap (statesCheck file) centres-count ∙ from-states)
 
   pub file-sound : fileCheck file ≡ Sound
-  unfolding fileCheck
+  unfolding fileCheck centresCheck statesCheck requestsCheck
   file-sound = sound-both (editionCheck file) _ edition from-centres

@@ -20,7 +20,7 @@ use Rattle.files.specs.declared.writer.Writing.the-variants.{Length}
 use Rattle.files.specs.Sections.{widthOf, statesPlace, requestsPlace, endPlace}
 use Rattle.files.specs.Reader.{fileCheck, placesOf, sectionsOf, readingBy, readingOf}
 use Rattle.files.specs.Writer.{recordsIn, lengthOf, refusalOf, fileOf, writingBy, roomBy, writingOf, roomOf}
-use Rattle.files.specs.Held.{held, Written}
+use Rattle.files.specs.Held.{held, Writable}
 use Rattle.files.proofs.Accepted.{counts-within}
 use Rattle.files.proofs.WriteLaws.{fits}
 use Rattle.files.proofs.SectionLaws.{runAt}
@@ -164,7 +164,7 @@ held-below file section at h =
     below-take (2 ^ 64) (at .count * widthOf section) (wordsFrom file (at .place + 8))
     (words-below ((length file - (at .place + 8)) / 8) (drop (at .place + 8) file) (below-drop 256 (at .place + 8) file h))
 
-pub accepted-is-written : (file : List ℕ) (places : Places) → Below 256 file → readingOf file ≡ Sections places → Written file
+pub accepted-is-written : (file : List ℕ) (places : Places) → Below 256 file → readingOf file ≡ Sections places → Writable file
 accepted-is-written file places bytes e =
     let w = written-again file places bytes e file (omega arith) in
     record {
@@ -177,25 +177,25 @@ accepted-is-written file places bytes e =
       same = ap (take (length file)) (w .1) ∙ take-at file (drop (length file) file) (length file) refl;
     }
 
-pub written-is-accepted : (file : List ℕ) (w : Written file) →
+pub written-is-accepted : (file : List ℕ) (w : Writable file) →
     readingOf file
     ≡ Sections (placesOf (recordsIn Centres (length (w .centres))) (recordsIn States (length (w .states))) (recordsIn Requests (length (w .requests))))
 written-is-accepted file w =
     sym (ap readingOf (w .same))
     ∙ reads-back (w .centres) (w .states) (w .requests) (w .room) (length file) (w .accepted) (w .words .0) (w .words .1) (w .words .2) .0
 
-pub refused-is-not-written : (file : List ℕ) (number place : ℕ) → readingOf file ≡ Refused number place → Written file → ⊥
+pub refused-is-not-written : (file : List ℕ) (number place : ℕ) → readingOf file ≡ Refused number place → Writable file → ⊥
 refused-is-not-written file number place e w =
     let f = written-is-accepted file w in
     let z : _≡_ {A = ℕ} 0 1 = cc in
     omega arith
 
-refused-by : (file : List ℕ) (x : Reading) → readingOf file ≡ x → Below 256 file → (Written file → ⊥) →
+refused-by : (file : List ℕ) (x : Reading) → readingOf file ≡ x → Below 256 file → (Writable file → ⊥) →
     (number : ℕ) × (place : ℕ) × (readingOf file ≡ Refused number place)
 refused-by file (Sections places) e bytes h = absurd (h (accepted-is-written file places bytes e))
 refused-by file (Refused number place) e bytes h = (number, place, e)
 
-pub not-written-is-refused : (file : List ℕ) → Below 256 file → (Written file → ⊥) → (number : ℕ) × (place : ℕ) × (readingOf file ≡ Refused number place)
+pub not-written-is-refused : (file : List ℕ) → Below 256 file → (Writable file → ⊥) → (number : ℕ) × (place : ℕ) × (readingOf file ≡ Refused number place)
 not-written-is-refused file bytes h = refused-by file (readingOf file) refl bytes h
 
 -- ---- "at most 56,160 bytes".

@@ -18,7 +18,7 @@ use Rattle.files.proofs.CheckLaws.{both, needed}
 
 pub limits-sound : (centres states requests : ℕ) → limitChecks centres states requests ≡ Sound →
     (centres ≤ limitOf Centres) × (states ≤ limitOf States) × (requests ≤ limitOf Requests)
-unfolding limitChecks laterLimits
+unfolding limitChecks
 limits-sound centres states requests e =
     let b = both _ _ e in
     let d = both _ _ (b .1) in
@@ -26,7 +26,7 @@ limits-sound centres states requests e =
 
 module _ (centres states requests : List ℕ) (room : ℕ) (sound : refusalOf centres states requests room ≡ Sound) where
   past-27 : (wholeChecks (length centres) (length states) (length requests) ≡ Sound) × (refusalWhole centres states requests room ≡ Sound)
-  unfolding refusalOf
+  unfolding refusalOf refusalWhole refusalWithin
   past-27 = both _ _ sound
 
   past-23 : (limitChecks (recordsIn Centres (length centres)) (recordsIn States (length states)) (recordsIn Requests (length requests)) ≡ Sound)

@@ -15,7 +15,7 @@ abbrev pub held : List ℕ → Section → Located → List ℕ
 held file section at = take (at .count * widthOf section) (wordsFrom file (at .place + 8))
 
 -- Three runs of words, written with some room, make exactly this file.
-pub record Written (file : List ℕ) : Type 0 where
+pub record Writable (file : List ℕ) : Type 0 where
   pub centres : List ℕ
   pub states : List ℕ
   pub requests : List ℕ

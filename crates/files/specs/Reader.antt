@@ -36,26 +36,18 @@ sectionCheck file place section below =
 abbrev pub endCheck : List ℕ → ℕ → Check
 endCheck file end = need (leb (length file) end) 25 end
 
--- The sections in their order; a count is known once its section is sound, and the next section stands after it.
-unfoldable pub requestsCheck : List ℕ → ℕ → ℕ → Check
-unfolding sectionCheck wordAt
-requestsCheck file centres states =
-    let place = requestsPlace centres states in
-    sectionCheck file place Requests states ⟫ endCheck file (endPlace centres states (wordAt file place))
-
-unfoldable pub statesCheck : List ℕ → ℕ → Check
-unfolding sectionCheck requestsCheck wordAt
-statesCheck file centres =
-    let place = statesPlace centres in
-    sectionCheck file place States centres ⟫ requestsCheck file centres (wordAt file place)
-
-unfoldable pub centresCheck : List ℕ → Check
-unfolding sectionCheck statesCheck wordAt
-centresCheck file = sectionCheck file 8 Centres 0 ⟫ statesCheck file (wordAt file 8)
-
+-- "The reader walks forward": the edition, the sections in their order, the end. Each section tells by its count where the next one stands.
 unfoldable pub fileCheck : List ℕ → Check
-unfolding editionCheck centresCheck
-fileCheck file = editionCheck file ⟫ centresCheck file
+unfolding editionCheck sectionCheck wordAt
+fileCheck file =
+    let centres = wordAt file 8 in
+    let states = wordAt file (statesPlace centres) in
+    let requests = wordAt file (requestsPlace centres states) in
+    editionCheck file
+    ⟫ sectionCheck file 8 Centres 0
+    ⟫ sectionCheck file (statesPlace centres) States centres
+    ⟫ sectionCheck file (requestsPlace centres states) Requests states
+    ⟫ endCheck file (endPlace centres states requests)
 
 -- Where the sections stand that have these counts.
 abbrev pub placesOf : ℕ → ℕ → ℕ → Places
@@ -81,6 +73,24 @@ sectionsOf file =
 unfoldable pub readingOf : List ℕ → Reading
 unfolding fileCheck sectionsOf
 readingOf file = readingBy (fileCheck file) (sectionsOf file)
+
+-- ---- What the reader's inner steps answer: the ends of that chain, from a section on.
+
+unfoldable pub requestsCheck : List ℕ → ℕ → ℕ → Check
+unfolding sectionCheck wordAt
+requestsCheck file centres states =
+    let place = requestsPlace centres states in
+    sectionCheck file place Requests states ⟫ endCheck file (endPlace centres states (wordAt file place))
+
+unfoldable pub statesCheck : List ℕ → ℕ → Check
+unfolding sectionCheck requestsCheck wordAt
+statesCheck file centres =
+    let place = statesPlace centres in
+    sectionCheck file place States centres ⟫ requestsCheck file centres (wordAt file place)
+
+unfoldable pub centresCheck : List ℕ → Check
+unfolding sectionCheck statesCheck wordAt
+centresCheck file = sectionCheck file 8 Centres 0 ⟫ statesCheck file (wordAt file 8)
 
 -- The refusal of word j of a section that a file has at a place, or 0: the walk's next step.
 abbrev pub wordFault : (ℕ → ℕ → ℕ) → List ℕ → ℕ → ℕ → ℕ

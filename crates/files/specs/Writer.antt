@@ -30,12 +30,11 @@ wholeChecks centres states requests = wholeCheck Centres 0 centres ⟫ wholeChec
 abbrev pub limitCheck : Section → ℕ → ℕ → Check
 limitCheck section place count = need (leb count (limitOf section)) 23 place
 
-unfoldable pub laterLimits : ℕ → ℕ → ℕ → Check
-laterLimits centres states requests = limitCheck States (statesPlace centres) states ⟫ limitCheck Requests (requestsPlace centres states) requests
-
 unfoldable pub limitChecks : ℕ → ℕ → ℕ → Check
-unfolding laterLimits
-limitChecks centres states requests = limitCheck Centres 8 centres ⟫ laterLimits centres states requests
+limitChecks centres states requests =
+    limitCheck Centres 8 centres
+    ⟫ limitCheck States (statesPlace centres) states
+    ⟫ limitCheck Requests (requestsPlace centres states) requests
 
 -- ---- 24: the walk of the reader, over the words that would follow each count word.
 abbrev pub numberCheck : Section → ℕ → ℕ → List ℕ → Check
@@ -57,23 +56,17 @@ lengthOf centres states requests = endPlace (recordsIn Centres centres) (records
 abbrev pub roomCheck : ℕ → ℕ → Check
 roomCheck length room = need (leb length room) 26 length
 
--- ---- "refuses in this order: 27, .. 23, 24, 26": last to first, each before those already there.
-unfoldable pub refusalWithin : List ℕ → List ℕ → List ℕ → ℕ → Check
-unfolding numberChecks
-refusalWithin centres states requests room =
-    numberChecks centres states requests ⟫ roomCheck (lengthOf (length centres) (length states) (length requests)) room
-
-unfoldable pub refusalWhole : List ℕ → List ℕ → List ℕ → ℕ → Check
-unfolding limitChecks refusalWithin
-refusalWhole centres states requests room =
-    limitChecks (recordsIn Centres (length centres)) (recordsIn States (length states)) (recordsIn Requests (length requests))
-    ⟫ refusalWithin centres states requests room
-
+-- ---- "refuses in this order: 27 .., 23, 24, 26".
 unfoldable pub refusalOf : List ℕ → List ℕ → List ℕ → ℕ → Check
-unfolding wholeChecks refusalWhole
+unfolding wholeChecks limitChecks numberChecks
 refusalOf centres states requests room =
-    wholeChecks (length centres) (length states) (length requests)
-    ⟫ refusalWhole centres states requests room
+    let c = length centres in
+    let s = length states in
+    let r = length requests in
+    wholeChecks c s r
+    ⟫ limitChecks (recordsIn Centres c) (recordsIn States s) (recordsIn Requests r)
+    ⟫ numberChecks centres states requests
+    ⟫ roomCheck (lengthOf c s r) room
 
 -- ---- The file: the edition, then each section after its count.
 abbrev pub sectionWords : Section → List ℕ → List ℕ
@@ -104,7 +97,22 @@ unfoldable pub roomOf : List ℕ → List ℕ → List ℕ → List ℕ → List
 unfolding refusalOf fileOf put
 roomOf centres states requests room = roomBy (refusalOf centres states requests (length room)) room (fileOf centres states requests)
 
--- ---- What the writer's inner steps go by: runs of so many words are within the limits; and runs are whole records within them, with room for their file.
+-- ---- What the writer's inner steps answer, the ends of those chains; and what they go by: runs of so many words are within the limits, and runs are whole
+-- records within them, with room for their file.
+unfoldable pub laterLimits : ℕ → ℕ → ℕ → Check
+laterLimits centres states requests = limitCheck States (statesPlace centres) states ⟫ limitCheck Requests (requestsPlace centres states) requests
+
+unfoldable pub refusalWithin : List ℕ → List ℕ → List ℕ → ℕ → Check
+unfolding numberChecks
+refusalWithin centres states requests room =
+    numberChecks centres states requests ⟫ roomCheck (lengthOf (length centres) (length states) (length requests)) room
+
+unfoldable pub refusalWhole : List ℕ → List ℕ → List ℕ → ℕ → Check
+unfolding limitChecks refusalWithin
+refusalWhole centres states requests room =
+    limitChecks (recordsIn Centres (length centres)) (recordsIn States (length states)) (recordsIn Requests (length requests))
+    ⟫ refusalWithin centres states requests room
+
 pub record Within (centres states requests : ℕ) : Type 0 where
   pub few-centres : recordsIn Centres centres ≤ limitOf Centres
   pub few-states : recordsIn States states ≤ limitOf States

@@ -1,6 +1,6 @@
 // The reader: walks an element file forward and answers where its sections stand, or the first fault.
 ghost use mathlib.Core.Path.{_≡_};
-ghost use Prim.Native.Nat.{_+_, _*_, _≤_};
+ghost use Prim.Native.Nat.{_+_, _*_, _^_, _<_, _≤_};
 ghost use Rattle.runs.specs.Words.{wordsFrom};
 ghost use Rattle.files.specs.Sections.{ruleOf, walk};
 ghost use Rattle.files.specs.Reader.{wordFault, editionCheck, countCheck, sectionCheck, requestsCheck, statesCheck, centresCheck, fileCheck, sectionsOf, readingOf};
@@ -48,7 +48,7 @@ fn word_fault(file: &[u8], place: usize, section: Section, below: usize, j: usiz
 
 // The walk over the words of a section's records, so many from a place on.
 fn walk_words(file: &[u8], place: usize, words: usize, section: Section, below: usize) -> Check
-    requires { ⌜ place + 8 * words ≤ 200000 ⌝ }
+    requires { ⌜ place + 8 * words < 2 ^ 64 ⌝ }
     ensures { λ r. ⌜ r ≡ walk (ruleOf section below) place 0 words (wordsFrom (now (file .entry)) place) ⌝ }
 {
     let mut left = words;
@@ -86,7 +86,7 @@ fn check_count(file: &[u8], place: usize, section: Section) -> Check
 
 // A section whose count word stands at a place.
 fn check_section(file: &[u8], place: usize, section: Section, below: usize) -> Check
-    requires { ⌜ place ≤ 100000 ⌝ }
+    requires { ⌜ place < 2 ^ 63 ⌝ }
     ensures { λ r. ⌜ r ≡ sectionCheck (now (file .entry)) place section below ⌝ }
 {
     let count = check_count(file, place, section);
@@ -139,7 +139,11 @@ fn check_centres(file: &[u8]) -> Check
 fn check_file(file: &[u8]) -> Check
     ensures { λ r. ⌜ r ≡ fileCheck (now (file .entry)) ⌝ }
 {
-    first(check_edition(file), check_centres(file))
+    let edition = check_edition(file);
+    let Check::Sound = edition else {
+        return edition;
+    };
+    check_centres(file)
 }
 
 // Where the sections of a sound file stand.

@@ -1,6 +1,6 @@
 // The three sections of an element file: what their records are, where they stand, and what a word of theirs may be.
 ghost use mathlib.Core.Path.{_≡_};
-ghost use Prim.Native.Nat.{_*_, _≤_};
+ghost use Prim.Native.Nat.{_^_, _<_, _≤_};
 ghost use Rattle.files.specs.Sections.{widthOf, limitOf, after, statesPlace, requestsPlace, endPlace, numberFault, faultOf, ruleOf, need, _⟫_};
 
 // Which section, in the order of the file.
@@ -60,7 +60,7 @@ pub fn limit(section: Section) -> usize
 
 // The place after a section of `count` records whose count word stands at `place`.
 pub(crate) fn place_after(section: Section, place: usize, count: usize) -> usize
-    requires { ⌜ (place ≤ 100000) × (count ≤ limitOf section) ⌝ }
+    requires { ⌜ (place < 2 ^ 63) × (count ≤ limitOf section) ⌝ }
     ensures { λ r. ⌜ r ≡ after section place count ⌝ }
 {
     place + 8 + 8 * (count * width(section))

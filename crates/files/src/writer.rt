@@ -1,6 +1,6 @@
 // The writer: judges three runs of words, then writes them as an element file.
 ghost use mathlib.Core.Path.{_≡_};
-ghost use Prim.Native.Nat.{_+_, _*_, _≤_};
+ghost use Prim.Native.Nat.{_+_, _*_, _^_, _<_, _≤_};
 ghost use lib.ListN.{length};
 ghost use Rattle.runs.specs.Words.{put, written};
 ghost use Rattle.files.specs.Sections.{ruleOf, walk};
@@ -38,6 +38,7 @@ fn check_whole(section: Section, index: usize, words: usize) -> Check
     need(words % width(section) == 0, 27, index)
 }
 
+// The same for the three runs.
 fn check_wholes(centres: usize, states: usize, requests: usize) -> Check
     ensures { λ r. ⌜ r ≡ wholeChecks centres states requests ⌝ }
 {
@@ -69,6 +70,7 @@ fn check_later_limits(centres: usize, states: usize, requests: usize) -> Check
     check_limit(Section::Requests, requests_place(centres, states), requests)
 }
 
+// Of all three.
 fn check_limits(centres: usize, states: usize, requests: usize) -> Check
     ensures { λ r. ⌜ r ≡ limitChecks centres states requests ⌝ }
 {
@@ -81,7 +83,7 @@ fn check_limits(centres: usize, states: usize, requests: usize) -> Check
 
 // The walk over a run whose first word would stand at a place.
 fn walk_run(run: &[u64], place: usize, section: Section, below: usize) -> Check
-    requires { ⌜ place + 8 * length (now run) ≤ 200000 ⌝ }
+    requires { ⌜ place + 8 * length (now run) < 2 ^ 64 ⌝ }
     ensures { λ r. ⌜ r ≡ walk (ruleOf section below) place 0 (length (now (run .entry))) (now (run .entry)) ⌝ }
 {
     let n = run.len();
