@@ -13,7 +13,7 @@ use Rattle.files.specs.declared.sections.Check.{Check}
 use Rattle.files.specs.declared.sections.Check.the-variants.{Sound}
 use Rattle.files.specs.Sections.{widthOf, statesPlace, requestsPlace, endPlace}
 use Rattle.files.specs.Reader.{editionCheck, requestsCheck, statesCheck, centresCheck, fileCheck, sectionCheck}
-use Rattle.files.specs.Writer.{recordsIn, wholeCheck, wholeChecks, laterLimits, limitChecks, numberCheck, numberChecks, lengthOf, refusalWithin, refusalWhole, refusalOf, sectionWords, fileWords, fileOf}
+use Rattle.files.specs.Writer.{recordsIn, wholeCheck, wholeChecks, limitChecks, numberCheck, numberChecks, lengthOf, refusalOf, sectionWords, fileWords, fileOf}
 use Rattle.files.proofs.CheckLaws.{both, sound-both, sound-need}
 use Rattle.files.proofs.Accepted.{edition-sound, centres-sound, states-sound, requests-sound, nothing-left}
 use Rattle.files.proofs.RecordLaws.{limit-bound}

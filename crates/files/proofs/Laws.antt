@@ -1,12 +1,16 @@
 -- The laws of the element file: the reader and the writer are each other's inverse.
-use Prim.Native.Nat.{ℕ, _+_, _-_, _*_, _/_, _^_, _≤_}
+use Prim.Native.Nat.{ℕ, zero, suc, _+_, _-_, _*_, _/_, _%_, _^_, _<_, _≤_}
 use native.Mathlib.Omega.{arith}
+use mathlib.Core.Bool.{Bool, true, false}
 use mathlib.Core.Path.{_≡_, refl, ap, ap₂, sym, subst, _∙_}
 use mathlib.Core.List.{List, _++_}
-use lib.ListN.{length, take, drop}
-use lib.Seq.{take-at}
+use borrow.Author.Tests.{ltb-true}
+use lib.Dec.{ltb}
+use lib.ListN.{length, getD, take, drop}
+use lib.Seq.{getD-take, take-at}
+use Rattle.bits.specs.Choice.{pick}
 use Rattle.runs.specs.Words.{wordAt, put, wordsFrom, Below}
-use Rattle.runs.proofs.WordLaws.{words-below, below-take, below-drop}
+use Rattle.runs.proofs.WordLaws.{word-of-words, words-below, below-take, below-drop}
 use Rattle.runs.proofs.PutLaws.{put-fits}
 use Rattle.files.specs.declared.sections.Section.{Section}
 use Rattle.files.specs.declared.sections.Section.the-variants.{Centres, States, Requests}
@@ -17,13 +21,13 @@ use Rattle.files.specs.declared.reader.Places.{Places}
 use Rattle.files.specs.declared.reader.Reading.{Reading}
 use Rattle.files.specs.declared.reader.Reading.the-variants.{Sections, Refused}
 use Rattle.files.specs.declared.writer.Writing.the-variants.{Length}
-use Rattle.files.specs.Sections.{widthOf, statesPlace, requestsPlace, endPlace}
+use Rattle.files.specs.Sections.{widthOf, numberFault, statesPlace, requestsPlace, endPlace}
 use Rattle.files.specs.Reader.{fileCheck, placesOf, sectionsOf, readingBy, readingOf}
 use Rattle.files.specs.Writer.{recordsIn, lengthOf, refusalOf, fileOf, writingBy, roomBy, writingOf, roomOf}
 use Rattle.files.specs.Held.{held, Writable}
-use Rattle.files.proofs.Accepted.{counts-within}
+use Rattle.files.proofs.Accepted.{counts-within, states-sound, requests-sound}
 use Rattle.files.proofs.WriteLaws.{fits}
-use Rattle.files.proofs.SectionLaws.{runAt}
+use Rattle.files.proofs.SectionLaws.{runAt, read-each}
 use Rattle.files.proofs.FileLaws.{ProperFile, accepted-proper, proper-accepted, proper-length, read-file-proper, read-length, read-bytes, file-length, file-sound, centres-count, states-count, requests-count, centres-held, states-held, requests-held}
 
 -- ---- Answers and checks.
@@ -203,3 +207,39 @@ pub accepted-length : (file : List ℕ) (places : Places) → readingOf file ≡
 accepted-length file places e =
     let sound = accepted-sound file places e .0 in
     omega (arith, read-length file sound, counts-within file sound)
+
+-- ---- For the layers above: the words of a section by their places; and in an accepted file the centre number of state i is the number of a centre, the
+-- state number of request i that of a state.
+pub held-word : (file : List ℕ) (section : Section) (at : Located) (j : ℕ) → j < at .count * widthOf section →
+    getD (held file section at) j 0 ≡ wordAt file (at .place + 8 + 8 * j)
+held-word file section at j h =
+    getD-take (at .count * widthOf section) (wordsFrom file (at .place + 8)) j 0 h ∙ word-of-words file (at .place + 8) j
+
+first-of-record : (below j w : ℕ) → numberFault below j w ≡ 0 → j ≡ 0 → w < below
+first-of-record below zero w e z = by (ltb w below) refl e
+  where
+    by : (b : Bool) → ltb w below ≡ b → _≡_ {A = ℕ} (pick b 0 24) 0 → w < below
+    by true t e = ltb-true w below t
+    by false t e = absurd (omega arith)
+first-of-record below (suc j) w e z = absurd (omega arith)
+
+pub centre-of-state : (file : List ℕ) (places : Places) → readingOf file ≡ Sections places →
+    (i : ℕ) → i < places .states .count → wordAt file (places .states .place + 8 + 8 * (i * widthOf States)) < places .centres .count
+unfolding sectionsOf
+centre-of-state file places e =
+    let a = accepted-sound file places e in
+    let goal : Places → Type 0 = λ x. (i : ℕ) → i < x .states .count → wordAt file (x .states .place + 8 + 8 * (i * widthOf States)) < x .centres .count in
+    let c = wordAt file 8 in
+    subst goal (a .1)
+    (λ i h. first-of-record c (i * 8 % 8) _ (read-each file (statesPlace c) States c (states-sound file (a .0)) (i * 8) (omega arith)) (omega arith))
+
+pub state-of-request : (file : List ℕ) (places : Places) → readingOf file ≡ Sections places →
+    (i : ℕ) → i < places .requests .count → wordAt file (places .requests .place + 8 + 8 * (i * widthOf Requests)) < places .states .count
+unfolding sectionsOf
+state-of-request file places e =
+    let a = accepted-sound file places e in
+    let goal : Places → Type 0 = λ x. (i : ℕ) → i < x .requests .count → wordAt file (x .requests .place + 8 + 8 * (i * widthOf Requests)) < x .states .count in
+    let c = wordAt file 8 in
+    let s = wordAt file (statesPlace c) in
+    subst goal (a .1)
+    (λ i h. first-of-record s (i * 2 % 2) _ (read-each file (requestsPlace c s) Requests s (requests-sound file (a .0)) (i * 2) (omega arith)) (omega arith))

@@ -1,13 +1,14 @@
 -- One section, of any width and under any rule: what is sound to the writer is sound to the reader, and the other way round.
-use Prim.Native.Nat.{ℕ, zero, suc, _+_, _*_, _%_, _≤_}
+use Prim.Native.Nat.{ℕ, zero, suc, _+_, _*_, _%_, _<_, _≤_}
+use native.Mathlib.Nat.{add-zero, zero-add}
 use native.Mathlib.Omega.{arith}
 use mathlib.Core.Path.{_≡_, refl, ap, ap₂, sym, _∙_}
 use mathlib.Core.List.{List, [], _∷_, _++_}
 use borrow.Author.Tests.{le-leb}
-use lib.ListN.{length, take, drop, take-append-drop}
+use lib.ListN.{length, getD, take, drop, take-append-drop}
 use lib.Seq.{length-take-le, take-at}
 use Rattle.runs.specs.Words.{wordAt, wordsFrom}
-use Rattle.runs.proofs.WordLaws.{next-word, words-later, length-words-from}
+use Rattle.runs.proofs.WordLaws.{next-word, word-of-words, words-later, length-words-from}
 use Rattle.files.specs.declared.sections.Section.{Section}
 use Rattle.files.specs.declared.sections.Section.the-variants.{Centres, States, Requests}
 use Rattle.files.specs.declared.sections.Check.{Check}
@@ -15,7 +16,7 @@ use Rattle.files.specs.declared.sections.Check.the-variants.{Sound}
 use Rattle.files.specs.Sections.{widthOf, limitOf, after, ruleOf, told, _⟫_, walk}
 use Rattle.files.specs.Reader.{countCheck, sectionCheck}
 use Rattle.files.specs.Writer.{recordsIn, numberCheck, sectionWords}
-use Rattle.files.proofs.CheckLaws.{both, fault-is-not-sound, sound-both, sound-need}
+use Rattle.files.proofs.CheckLaws.{both, untold, fault-is-not-sound, sound-both, sound-need}
 use Rattle.files.proofs.Accepted.{count-whole, count-within, words-sound}
 
 -- ---- The walk looks at no more words than it needs, and a sound one had them all.
@@ -31,6 +32,16 @@ unfolding walk
 walk-needs rule place j zero ws e = omega arith
 walk-needs rule place j (suc n) [] e = fault-is-not-sound e
 walk-needs rule place j (suc n) (w ∷ ws) e = omega (arith, walk-needs rule (place + 8) (suc j) n ws (both (told (rule j w) place) _ e .1))
+
+pub walk-each : (rule : ℕ → ℕ → ℕ) (place j n : ℕ) (ws : List ℕ) → walk rule place j n ws ≡ Sound → (i : ℕ) → i < n → rule (j + i) (getD ws i 0) ≡ 0
+unfolding walk
+walk-each rule place j zero ws e i h = absurd (omega arith)
+walk-each rule place j (suc n) [] e i h = fault-is-not-sound e
+walk-each rule place j (suc n) (w ∷ ws) e zero h = ap (λ (k : ℕ). rule k w) (add-zero j) ∙ untold (rule j w) place (both (told (rule j w) place) _ e .0)
+walk-each rule place j (suc n) (w ∷ ws) e (suc i) h =
+    let k : j + suc i ≡ suc j + i = omega arith in
+    ap (λ (m : ℕ). rule m (getD ws i 0)) k
+    ∙ walk-each rule (place + 8) (suc j) n ws (both (told (rule j w) place) _ e .1) i (omega arith)
 
 -- ---- Whole records.
 
@@ -96,6 +107,12 @@ module _ (file : List ℕ) (place : ℕ) (section : Section) (below : ℕ) (soun
       let told-count : count ≡ recordsIn section (length run) = sym (ap (recordsIn section) sized ∙ records-of section count) in
       next-word file place (count-whole file place section below sound)
       ∙ ap₂ _∷_ told-count (sym (take-append-drop n rest) ∙ ap (λ (ws : List ℕ). run ++ ws) (sym (words-later file (place + 8) n)))
+
+  pub read-each : (j : ℕ) → j < count * widthOf section → ruleOf section below j (wordAt file (place + 8 + 8 * j)) ≡ 0
+  read-each j h =
+      ap (ruleOf section below j) (sym (word-of-words file (place + 8) j))
+      ∙ ap (λ (k : ℕ). ruleOf section below k (getD rest j 0)) (sym (zero-add j))
+      ∙ walk-each (ruleOf section below) (place + 8) 0 (count * widthOf section) rest (words-sound file place section below sound) j h
 
   pub read-end : after section place count ≤ length file
   read-end = omega (arith, enough, length-words-from file (place + 8), count-whole file place section below sound)

@@ -11,7 +11,7 @@ use Rattle.runs.proofs.PutLaws.{put-next}
 use Rattle.files.specs.declared.sections.Section.the-variants.{Centres, States, Requests}
 use Rattle.files.specs.declared.sections.Check.the-variants.{Sound}
 use Rattle.files.specs.Sections.{limitOf, statesPlace, requestsPlace}
-use Rattle.files.specs.Writer.{recordsIn, wholeChecks, laterLimits, limitChecks, numberChecks, roomCheck, lengthOf, refusalWithin, refusalWhole, refusalOf, sectionWords, fileWords, fileOf, Fits}
+use Rattle.files.specs.Writer.{recordsIn, wholeChecks, limitChecks, numberChecks, roomCheck, lengthOf, refusalWithin, refusalWhole, refusalOf, sectionWords, fileWords, fileOf, Fits}
 use Rattle.files.proofs.CheckLaws.{both, needed}
 
 -- ---- What a sound judgement tells.
