@@ -1,0 +1,245 @@
+-- The laws of the element file: the reader and the writer are each other's inverse.
+use Prim.Native.Nat.{ℕ, zero, suc, _+_, _-_, _*_, _/_, _%_, _^_, _<_, _≤_}
+use native.Mathlib.Omega.{arith}
+use mathlib.Core.Bool.{Bool, true, false}
+use mathlib.Core.Path.{_≡_, refl, ap, ap₂, sym, subst, _∙_}
+use mathlib.Core.List.{List, _++_}
+use borrow.Author.Tests.{ltb-true}
+use lib.Dec.{ltb}
+use lib.ListN.{length, getD, take, drop}
+use lib.Seq.{getD-take, take-at}
+use Rattle.bits.specs.Choice.{pick}
+use Rattle.runs.specs.Words.{wordAt, put, wordsFrom, Below}
+use Rattle.runs.proofs.WordLaws.{word-of-words, words-below, below-take, below-drop}
+use Rattle.runs.proofs.PutLaws.{put-fits}
+use Rattle.files.specs.declared.sections.Section.{Section}
+use Rattle.files.specs.declared.sections.Section.the-variants.{Centres, States, Requests}
+use Rattle.files.specs.declared.sections.Check.{Check}
+use Rattle.files.specs.declared.sections.Check.the-variants.{Sound, Fault}
+use Rattle.files.specs.declared.reader.Located.{Located}
+use Rattle.files.specs.declared.reader.Places.{Places}
+use Rattle.files.specs.declared.reader.Reading.{Reading}
+use Rattle.files.specs.declared.reader.Reading.the-variants.{Sections, Refused}
+use Rattle.files.specs.declared.writer.Writing.the-variants.{Length}
+use Rattle.files.specs.Sections.{widthOf, numberFault, statesPlace, requestsPlace, endPlace}
+use Rattle.files.specs.Reader.{fileCheck, placesOf, sectionsOf, readingBy, readingOf}
+use Rattle.files.specs.Writer.{recordsIn, lengthOf, refusalOf, fileOf, writingBy, roomBy, writingOf, roomOf}
+use Rattle.files.specs.Held.{held, Writable}
+use Rattle.files.proofs.Accepted.{counts-within, states-sound, requests-sound}
+use Rattle.files.proofs.WriteLaws.{fits}
+use Rattle.files.proofs.SectionLaws.{runAt, read-each}
+use Rattle.files.proofs.FileLaws.{ProperFile, accepted-proper, proper-accepted, proper-length, read-file-proper, read-length, read-bytes, file-length, file-sound, centres-count, states-count, requests-count, centres-held, states-held, requests-held}
+
+-- ---- Answers and checks.
+
+read-by : (k : Check) (places x : Places) → readingBy k places ≡ Sections x → (k ≡ Sound) × (places ≡ x)
+read-by Sound places x e = (refl, cc)
+read-by (Fault number place) places x e = let z : _≡_ {A = ℕ} 0 1 = cc in absurd (omega arith)
+
+pub accepted-sound : (file : List ℕ) (places : Places) → readingOf file ≡ Sections places → (fileCheck file ≡ Sound) × (sectionsOf file ≡ places)
+unfolding readingOf
+accepted-sound file places e = read-by (fileCheck file) (sectionsOf file) places e
+
+write-by : (k : Check) (n m : ℕ) → writingBy k n ≡ Length m → (k ≡ Sound) × (n ≡ m)
+write-by Sound n m e = (refl, cc)
+write-by (Fault number place) n m e = let z : _≡_ {A = ℕ} 0 1 = cc in absurd (omega arith)
+
+module _ (C S R room : List ℕ) where
+  written-sound : (n : ℕ) → writingOf C S R room ≡ Length n → (refusalOf C S R (length room) ≡ Sound) × (lengthOf (length C) (length S) (length R) ≡ n)
+  unfolding writingOf
+  written-sound n e = write-by _ _ n e
+
+  sound-written : refusalOf C S R (length room) ≡ Sound →
+      (writingOf C S R room ≡ Length (lengthOf (length C) (length S) (length R))) × (roomOf C S R room ≡ put room 0 (fileOf C S R))
+  unfolding writingOf roomOf
+  sound-written e = (
+    ap (λ (k : Check). writingBy k (lengthOf (length C) (length S) (length R))) e,
+    ap (λ (k : Check). roomBy k room (fileOf C S R)) e,
+  )
+
+-- A file put at the start of a room.
+at-start : (room file : List ℕ) → length file ≤ length room → put room 0 file ≡ file ++ drop (length file) room
+at-start room file h =
+    let all : 0 + length file ≡ length file = omega arith in
+    put-fits room file 0 (omega arith) ∙ ap (λ (n : ℕ). file ++ drop n room) all
+
+again : (file : List ℕ) → Below 256 file → fileCheck file ≡ Sound → (room : List ℕ) → length file ≤ length room →
+    let c = wordAt file 8 in
+    let s = wordAt file (statesPlace c) in
+    let C = runAt file 8 Centres in
+    let S = runAt file (statesPlace c) States in
+    let R = runAt file (requestsPlace c s) Requests in
+    (writingOf C S R room ≡ Length (length file)) × (roomOf C S R room ≡ file ++ drop (length file) room)
+again file bytes sound room h =
+    let c = wordAt file 8 in
+    let s = wordAt file (statesPlace c) in
+    let r = wordAt file (requestsPlace c s) in
+    let C = runAt file 8 Centres in
+    let S = runAt file (statesPlace c) States in
+    let R = runAt file (requestsPlace c s) Requests in
+    let p = read-file-proper file sound in
+    let long : length file ≡ endPlace c s r = read-length file sound in
+    let w = sound-written C S R room (proper-accepted C S R c s r p (length room) (omega arith)) in
+    (w .0 ∙ ap Length (proper-length C S R c s r p ∙ sym long), w .1 ∙ ap (put room 0) (read-bytes file sound bytes) ∙ at-start room file h)
+
+-- ---- "An accepted file written again is the same bytes": at the start of any room that is long enough, which keeps its bytes beyond.
+pub written-again : (file : List ℕ) (places : Places) → Below 256 file → readingOf file ≡ Sections places →
+    (room : List ℕ) → length file ≤ length room →
+    let C = held file Centres (places .centres) in
+    let S = held file States (places .states) in
+    let R = held file Requests (places .requests) in
+    (writingOf C S R room ≡ Length (length file)) × (roomOf C S R room ≡ file ++ drop (length file) room)
+unfolding sectionsOf
+written-again file places bytes e room h =
+    let a = accepted-sound file places e in
+    let goal : Places → Type 0 = λ x.
+    let C = held file Centres (x .centres) in
+    let S = held file States (x .states) in
+    let R = held file Requests (x .requests) in
+    (writingOf C S R room ≡ Length (length file)) × (roomOf C S R room ≡ file ++ drop (length file) room)
+    in
+    subst goal (a .1) (again file bytes (a .0) room h)
+
+-- ---- "What is written reads back as the same sections", words included.
+back : (C S R : List ℕ) (c s r : ℕ) → ProperFile C S R c s r → Below (2 ^ 64) C → Below (2 ^ 64) S → Below (2 ^ 64) R →
+    let file = fileOf C S R in
+    let places = placesOf c s r in
+    (readingOf file ≡ Sections places)
+    × (held file Centres (places .centres) ≡ C) × (held file States (places .states) ≡ S) × (held file Requests (places .requests) ≡ R)
+unfolding readingOf sectionsOf
+back C S R c s r p bc bs br =
+    let file = fileOf C S R in
+    let ec : wordAt file 8 ≡ c = centres-count C S R c s r p bc bs br in
+    let es : wordAt file (statesPlace (wordAt file 8)) ≡ s = ap (λ (k : ℕ). wordAt file (statesPlace k)) ec ∙ states-count C S R c s r p bc bs br in
+    let er : wordAt file (requestsPlace (wordAt file 8) (wordAt file (statesPlace (wordAt file 8)))) ≡ r =
+    ap₂ (λ (k l : ℕ). wordAt file (requestsPlace k l)) ec es ∙ requests-count C S R c s r p bc bs br
+    in (
+      ap (λ (k : Check). readingBy k (sectionsOf file)) (file-sound C S R c s r p bc bs br)
+          ∙ ap Sections (λ i. placesOf (ec i) (es i) (er i)),
+      ap (λ (k : ℕ). held file Centres (record { place = 8; count = k })) (sym ec) ∙ centres-held C S R c s r p bc bs br,
+      ap (λ (k : ℕ). held file States (record { place = statesPlace c; count = k })) (sym (states-count C S R c s r p bc bs br)) ∙ states-held C S R c s r p bc bs br,
+      ap (λ (k : ℕ). held file Requests (record { place = requestsPlace c s; count = k })) (sym (requests-count C S R c s r p bc bs br)) ∙ requests-held C S R c s r p bc bs br,
+    )
+
+module _ (C S R room : List ℕ) (n : ℕ) (e : writingOf C S R room ≡ Length n) where
+  sound : refusalOf C S R (length room) ≡ Sound
+  sound = written-sound C S R room n e .0
+
+  abbrev c : ℕ
+  c = recordsIn Centres (length C)
+
+  abbrev s : ℕ
+  s = recordsIn States (length S)
+
+  abbrev r : ℕ
+  r = recordsIn Requests (length R)
+
+  proper : ProperFile C S R c s r
+  proper = accepted-proper C S R (length room) sound
+
+  module _ (bc : Below (2 ^ 64) C) (bs : Below (2 ^ 64) S) (br : Below (2 ^ 64) R) where
+    -- The first n bytes of the room are the file, and the others are as they were.
+    pub written-file : (length (fileOf C S R) ≡ n) × (roomOf C S R room ≡ fileOf C S R ++ drop n room)
+    written-file =
+        let long : length (fileOf C S R) ≡ n = file-length C S R c s r proper bc bs br ∙ sym (proper-length C S R c s r proper) ∙ written-sound C S R room n e .1 in
+        let enough : length (fileOf C S R) ≤ length room = omega (arith, fits C S R (length room) sound .roomy, written-sound C S R room n e .1) in
+        (long, sound-written C S R room sound .1 ∙ at-start room (fileOf C S R) enough ∙ ap (λ (k : ℕ). fileOf C S R ++ drop k room) long)
+
+    first-bytes : take n (roomOf C S R room) ≡ fileOf C S R
+    first-bytes = ap (take n) (written-file .1) ∙ take-at (fileOf C S R) (drop n room) n (written-file .0)
+
+    pub reads-back :
+        let file = take n (roomOf C S R room) in
+        let places = placesOf c s r in
+        (readingOf file ≡ Sections places)
+        × (held file Centres (places .centres) ≡ C) × (held file States (places .states) ≡ S) × (held file Requests (places .requests) ≡ R)
+    reads-back =
+        let goal : List ℕ → Type 0 = λ file.
+        let places = placesOf c s r in
+        (readingOf file ≡ Sections places)
+        × (held file Centres (places .centres) ≡ C) × (held file States (places .states) ≡ S) × (held file Requests (places .requests) ≡ R)
+        in
+        subst goal (sym first-bytes) (back C S R c s r proper bc bs br)
+
+-- ---- The reader accepts exactly the files that some sections write, and refuses exactly those that none do.
+held-below : (file : List ℕ) (section : Section) (at : Located) → Below 256 file → Below (2 ^ 64) (held file section at)
+unfolding wordsFrom
+held-below file section at h =
+    below-take (2 ^ 64) (at .count * widthOf section) (wordsFrom file (at .place + 8))
+    (words-below ((length file - (at .place + 8)) / 8) (drop (at .place + 8) file) (below-drop 256 (at .place + 8) file h))
+
+pub accepted-is-written : (file : List ℕ) (places : Places) → Below 256 file → readingOf file ≡ Sections places → Writable file
+accepted-is-written file places bytes e =
+    let w = written-again file places bytes e file (omega arith) in
+    record {
+      centres = held file Centres (places .centres);
+      states = held file States (places .states);
+      requests = held file Requests (places .requests);
+      room = file;
+      words = (held-below file Centres (places .centres) bytes, held-below file States (places .states) bytes, held-below file Requests (places .requests) bytes);
+      accepted = w .0;
+      same = ap (take (length file)) (w .1) ∙ take-at file (drop (length file) file) (length file) refl;
+    }
+
+pub written-is-accepted : (file : List ℕ) (w : Writable file) →
+    readingOf file
+    ≡ Sections (placesOf (recordsIn Centres (length (w .centres))) (recordsIn States (length (w .states))) (recordsIn Requests (length (w .requests))))
+written-is-accepted file w =
+    sym (ap readingOf (w .same))
+    ∙ reads-back (w .centres) (w .states) (w .requests) (w .room) (length file) (w .accepted) (w .words .0) (w .words .1) (w .words .2) .0
+
+pub refused-is-not-written : (file : List ℕ) (number place : ℕ) → readingOf file ≡ Refused number place → Writable file → ⊥
+refused-is-not-written file number place e w =
+    let f = written-is-accepted file w in
+    let z : _≡_ {A = ℕ} 0 1 = cc in
+    omega arith
+
+refused-by : (file : List ℕ) (x : Reading) → readingOf file ≡ x → Below 256 file → (Writable file → ⊥) →
+    (number : ℕ) × (place : ℕ) × (readingOf file ≡ Refused number place)
+refused-by file (Sections places) e bytes h = absurd (h (accepted-is-written file places bytes e))
+refused-by file (Refused number place) e bytes h = (number, place, e)
+
+pub not-written-is-refused : (file : List ℕ) → Below 256 file → (Writable file → ⊥) → (number : ℕ) × (place : ℕ) × (readingOf file ≡ Refused number place)
+not-written-is-refused file bytes h = refused-by file (readingOf file) refl bytes h
+
+-- ---- "at most 56,160 bytes".
+pub accepted-length : (file : List ℕ) (places : Places) → readingOf file ≡ Sections places → length file ≤ 56160
+accepted-length file places e =
+    let sound = accepted-sound file places e .0 in
+    omega (arith, read-length file sound, counts-within file sound)
+
+-- ---- For the layers above: the words of a section by their places; and in an accepted file the centre number of state i is the number of a centre, the
+-- state number of request i that of a state.
+pub held-word : (file : List ℕ) (section : Section) (at : Located) (j : ℕ) → j < at .count * widthOf section →
+    getD (held file section at) j 0 ≡ wordAt file (at .place + 8 + 8 * j)
+held-word file section at j h =
+    getD-take (at .count * widthOf section) (wordsFrom file (at .place + 8)) j 0 h ∙ word-of-words file (at .place + 8) j
+
+first-of-record : (below j w : ℕ) → numberFault below j w ≡ 0 → j ≡ 0 → w < below
+first-of-record below zero w e z = by (ltb w below) refl e
+  where
+    by : (b : Bool) → ltb w below ≡ b → _≡_ {A = ℕ} (pick b 0 24) 0 → w < below
+    by true t e = ltb-true w below t
+    by false t e = absurd (omega arith)
+first-of-record below (suc j) w e z = absurd (omega arith)
+
+pub centre-of-state : (file : List ℕ) (places : Places) → readingOf file ≡ Sections places →
+    (i : ℕ) → i < places .states .count → wordAt file (places .states .place + 8 + 8 * (i * widthOf States)) < places .centres .count
+unfolding sectionsOf
+centre-of-state file places e =
+    let a = accepted-sound file places e in
+    let goal : Places → Type 0 = λ x. (i : ℕ) → i < x .states .count → wordAt file (x .states .place + 8 + 8 * (i * widthOf States)) < x .centres .count in
+    let c = wordAt file 8 in
+    subst goal (a .1)
+    (λ i h. first-of-record c (i * 8 % 8) _ (read-each file (statesPlace c) States c (states-sound file (a .0)) (i * 8) (omega arith)) (omega arith))
+
+pub state-of-request : (file : List ℕ) (places : Places) → readingOf file ≡ Sections places →
+    (i : ℕ) → i < places .requests .count → wordAt file (places .requests .place + 8 + 8 * (i * widthOf Requests)) < places .states .count
+unfolding sectionsOf
+state-of-request file places e =
+    let a = accepted-sound file places e in
+    let goal : Places → Type 0 = λ x. (i : ℕ) → i < x .requests .count → wordAt file (x .requests .place + 8 + 8 * (i * widthOf Requests)) < x .states .count in
+    let c = wordAt file 8 in
+    let s = wordAt file (statesPlace c) in
+    subst goal (a .1)
+    (λ i h. first-of-record s (i * 2 % 2) _ (read-each file (requestsPlace c s) Requests s (requests-sound file (a .0)) (i * 2) (omega arith)) (omega arith))
