@@ -1,0 +1,2 @@
+-- Layer 5: the result file.
+pub mod Results

@@ -1,0 +1,146 @@
+// Layer 5: from an element file to its result file.
+ghost use mathlib.Core.Path.{_≡_};
+ghost use mathlib.Core.List.{[], _∷_};
+ghost use Prim.Native.Nat.{_+_, _*_, _^_, _<_, _≤_};
+ghost use lib.Ieee.{binary64, toBits};
+ghost use lib.ListN.{length};
+ghost use Rattle.runs.specs.Words.{written, put};
+ghost use Rattle.files.specs.Reader.{readingOf};
+ghost use Rattle.results.specs.Results.{Accepted, tauWord, tauSince, eightWords, requestWords, rowOf, rowPlace, rowsOf, sectionsWords, resultFile, fits, outcomeOf};
+use bits::words::Figure;
+use bits::words::figure_of;
+use bits::words::word_of;
+use files::reader::Places;
+use files::reader::Reading;
+use runs::put_words;
+use runs::word_at;
+
+// A word that is no number's.
+const NOT_A_NUMBER: u64 = 0x7ff8_0000_0000_0000;
+
+// What was written: 0 and the length of the result file, or 26 and the length that is needed.
+pub struct Outcome {
+    pub number: u64,
+    pub length: usize,
+}
+
+// The word of tau, of a time that is finite.
+fn tau_since(time: f64, epoch: u64) -> u64
+    ensures { λ r. ⌜ r ≡ tauSince time epoch ⌝ }
+{
+    match figure_of(epoch) {
+        Figure::Finite(from) => word_of(time - from),
+        Figure::NotFinite => NOT_A_NUMBER,
+    }
+}
+
+// The word of tau: time less epoch.
+fn tau_word(time: u64, epoch: u64) -> u64
+    ensures { λ r. ⌜ r ≡ tauWord time epoch ⌝ }
+{
+    match figure_of(time) {
+        Figure::Finite(at) => tau_since(at, epoch),
+        Figure::NotFinite => NOT_A_NUMBER,
+    }
+}
+
+// The place of record i of a section whose count word stands at `place`.
+fn record_at(place: usize, i: usize, width: usize) -> usize
+    requires { ⌜ (place < 2 ^ 32) × (i < 2 ^ 32) × (width ≤ 8) ⌝ }
+    ensures { λ r. ⌜ r ≡ place + 8 + 8 * (i * width) ⌝ }
+{
+    place + 8 + 8 * (i * width)
+}
+
+// The eight words of a request that stands at one place, of a state at another, of a centre at a third.
+fn eight_words(file: &[u8], request: usize, state: usize, centre: usize) -> [u64; 8]
+    requires { ⌜ (request < 2 ^ 40) × (state < 2 ^ 40) ⌝ }
+    ensures { λ r. ⌜ r ≡ eightWords (now (file .entry)) request state centre ⌝ }
+{
+    [
+        word_at(file, centre),
+        word_at(file, state + 16),
+        word_at(file, state + 24),
+        word_at(file, state + 32),
+        word_at(file, state + 40),
+        word_at(file, state + 48),
+        word_at(file, state + 56),
+        tau_word(word_at(file, request + 8), word_at(file, state + 8)),
+    ]
+}
+
+// The eight words of request k of an accepted file.
+fn request_words(file: &[u8], places: Places, k: usize) -> [u64; 8]
+    requires { ⌜ Accepted (now file) places × (k < places .requests .count) ⌝ }
+    ensures { λ r. ⌜ r ≡ requestWords (now (file .entry)) places k ⌝ }
+{
+    let request = record_at(places.requests.place, k, 2);
+    let state = record_at(places.states.place, word_at(file, request) as usize, 8);
+    let centre = record_at(places.centres.place, word_at(file, state) as usize, 1);
+    eight_words(file, request, state, centre)
+}
+
+// The row of a request, put at its place.
+fn put_row(file: &[u8], places: Places, k: usize, room: &mut [u8])
+    requires { ⌜ Accepted (now file) places × (k < places .requests .count) ⌝ }
+    ensures { λ _. ⌜ now (room .exit) ≡ put (now (room .entry)) (rowPlace k) (written (rowOf (requestWords (now (file .entry)) places k))) ⌝ }
+{
+    let answer = states::call::propagate(request_words(file, places, k));
+    let words = states::answer::words_of(answer);
+    put_words(room, 16 + 88 * k, &words[..11]);
+}
+
+// The rows of all requests, one after another.
+fn put_rows(file: &[u8], places: Places, room: &mut [u8])
+    requires { ⌜ Accepted (now file) places × (rowPlace (places .requests .count) ≤ length (now room)) ⌝ }
+    ensures { λ _. ⌜ now (room .exit) ≡ put (now (room .entry)) 16 (written (rowsOf (now (file .entry)) places (places .requests .count))) ⌝ }
+{
+    let n = places.requests.count;
+    let mut left = n;
+    while 0 < left {
+        put_row(file, places, n - left, room);
+        left -= 1;
+    }
+}
+
+// The result file of an accepted file.
+fn write_accepted(file: &[u8], places: Places, room: &mut [u8]) -> Outcome
+    requires { ⌜ Accepted (now file) places ⌝ }
+    ensures { λ r. ⌜ (r ≡ fits (written (sectionsWords (now (file .entry)) places)) (now (room .entry))) × (now (room .exit) ≡ put (now (room .entry)) 0 (written (sectionsWords (now (file .entry)) places))) ⌝ }
+{
+    let n = places.requests.count;
+    let length = 16 + 88 * n;
+    if room.len() < length {
+        return Outcome { number: 26, length };
+    }
+    put_words(room, 0, &[1, n as u64]);
+    put_rows(file, places, room);
+    Outcome { number: 0, length }
+}
+
+// The three words of a file that is refused.
+fn write_refused(number: u64, room: &mut [u8]) -> Outcome
+    ensures { λ r. ⌜ (r ≡ fits (written (1 ∷ 0 ∷ number ∷ [])) (now (room .entry))) × (now (room .exit) ≡ put (now (room .entry)) 0 (written (1 ∷ 0 ∷ number ∷ []))) ⌝ }
+{
+    if room.len() < 24 {
+        return Outcome {
+            number: 26,
+            length: 24,
+        };
+    }
+    put_words(room, 0, &[1, 0, number]);
+    Outcome {
+        number: 0,
+        length: 24,
+    }
+}
+
+// The result file of an element file, to a room; where the room is too short, nothing is changed.
+pub fn write_results(file: &[u8], room: &mut [u8]) -> Outcome
+    ensures { λ r. ⌜ (r ≡ outcomeOf (now (file .entry)) (now (room .entry))) × (now (room .exit) ≡ put (now (room .entry)) 0 (resultFile (now (file .entry)))) ⌝ }
+{
+    match files::reader::read_file(file) {
+        Reading::Sections(places) => write_accepted(file, places, room),
+        Reading::Refused { number, place: _ } => write_refused(number, room),
+    }
+}
