@@ -7,6 +7,12 @@ use Rattle.kelubashi.proofs.kelubashi1_propagate.Kinds as propagate-kin
 use Rattle.kelubashi.proofs.kelubashi1_propagate.Reads as propagate-reads
 use Rattle.kelubashi.proofs.kelubashi1_partials.Kinds as partials-kinds
 use Rattle.kelubashi.proofs.kelubashi1_partials.Reads as partials-reads
+use Rattle.kelubashi.proofs.kelubashi1_read.Kinds as read-kinds
+use Rattle.kelubashi.proofs.kelubashi1_read.Reads as read-reads
+use Rattle.kelubashi.proofs.kelubashi1_write.Kinds as write-kinds
+use Rattle.kelubashi.proofs.kelubashi1_write.Reads as write-reads
+use Rattle.kelubashi.proofs.kelubashi1_results.Kinds as results-kinds
+use Rattle.kelubashi.proofs.kelubashi1_results.Reads as results-reads
 
 pub root-one : OneAnswer 1 root-kinds.ps root-kinds.r root-reads.Post
 root-one κs a x y v w p q = (p .0 ∙ sym (q .0), λ i. (tt, ((p .1 ∙ sym (q .1)) i, tt)))
@@ -16,3 +22,12 @@ propagate-one κs a x y v w p q = (p .0 ∙ sym (q .0), λ i. (tt, (tt, (tt, (tt
 
 pub partials-one : OneAnswer 2 partials-kinds.ps partials-kinds.r partials-reads.Post
 partials-one κs a x y v w p q = (p .0 ∙ sym (q .0), λ i. (tt, (tt, (tt, (tt, (tt, (tt, (tt, (tt, ((p .1 ∙ sym (q .1)) i, ((p .2 ∙ sym (q .2)) i, tt)))))))))))
+
+pub read-one : OneAnswer 2 read-kinds.ps read-kinds.r read-reads.Post
+read-one κs a x y v w p q = (p .0 ∙ sym (q .0), λ i. (tt, ((p .1 ∙ sym (q .1)) i, tt)))
+
+pub write-one : OneAnswer 5 write-kinds.ps write-kinds.r write-reads.Post
+write-one κs a x y v w p q = (p .0 ∙ sym (q .0), λ i. (tt, (tt, (tt, ((p .2 ∙ sym (q .2)) i, ((p .1 ∙ sym (q .1)) i, tt))))))
+
+pub results-one : OneAnswer 3 results-kinds.ps results-kinds.r results-reads.Post
+results-one κs a x y v w p q = (p .0 ∙ sym (q .0), λ i. (tt, ((p .2 ∙ sym (q .2)) i, ((p .1 ∙ sym (q .1)) i, tt))))

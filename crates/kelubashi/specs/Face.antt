@@ -3,8 +3,13 @@
 use mathlib.Core.List.{List, [], _∷_}
 use Prim.Native.Nat.{ℕ}
 use lib.Dec.{eqb}
-use lib.ListN.{length}
+use lib.ListN.{length, getD}
 use Rattle.bits.specs.Choice.{pick}
+use Rattle.files.specs.declared.reader.Reading.{Reading}
+use Rattle.files.specs.declared.reader.Reading.the-variants as reading
+use Rattle.files.specs.declared.writer.Writing.{Writing}
+use Rattle.files.specs.declared.writer.Writing.the-variants as writing
+use Rattle.results.specs.declared.Outcome.{Outcome}
 
 -- What is returned, for an answer of n words and a run as it was handed in.
 abbrev pub returned : ℕ → List ℕ → ℕ → ℕ
@@ -21,3 +26,23 @@ lentBehind n run lent after = pick (eqb (length run) n) after lent
 -- The eight words of a call, in order.
 abbrev pub orbitWords : (mu x y z vx vy vz tau : ℕ) → List ℕ
 orbitWords mu x y z vx vy vz tau = mu ∷ x ∷ y ∷ z ∷ vx ∷ vy ∷ vz ∷ tau ∷ []
+
+-- The reader's answer: number, place, then place and count of centres, states, requests. The place is 0 where the file is accepted, the last six are 0 where
+-- it is refused.
+unfoldable pub readingWords : Reading → List ℕ
+readingWords (reading.Sections p) =
+    0 ∷ 0 ∷ p .centres .place ∷ p .centres .count ∷ p .states .place ∷ p .states .count ∷ p .requests .place ∷ p .requests .count ∷ []
+readingWords (reading.Refused number place) = number ∷ place ∷ 0 ∷ 0 ∷ 0 ∷ 0 ∷ 0 ∷ 0 ∷ []
+
+-- The writer's answer: number, then the place of the refusal, or the length written.
+unfoldable pub writingWords : Writing → List ℕ
+writingWords (writing.Length length) = 0 ∷ length ∷ []
+writingWords (writing.Refused number place) = number ∷ place ∷ []
+
+-- The number of an answer is its first word.
+abbrev pub firstOf : List ℕ → ℕ
+firstOf words = getD words 0 0
+
+-- The results' answer: number, then the length written or needed.
+abbrev pub outcomeWords : Outcome → List ℕ
+outcomeWords o = o .number ∷ o .length ∷ []

@@ -2,7 +2,13 @@
 // field; the names carry the interface's edition, so a header of another edition does not link.
 ghost use mathlib.Core.Path.{_≡_};
 ghost use lib.ListN.{length};
-ghost use Rattle.kelubashi.specs.Face.{returned, written, orbitWords, lentBehind};
+ghost use Rattle.kelubashi.specs.Face.{returned, written, orbitWords, lentBehind, readingWords, writingWords, outcomeWords, firstOf};
+ghost use Rattle.files.specs.Reader.{readingOf};
+ghost use Rattle.files.specs.Writer.{writingOf, roomOf};
+ghost use Rattle.runs.specs.Words.{put};
+ghost use Rattle.results.specs.Results.{outcomeOf, resultFile};
+use files::reader::Reading;
+use files::writer::Writing;
 ghost use Rattle.bits.specs.Root.{rootRefusalOf, rootWordOf};
 ghost use Rattle.states.specs.Call.{answerWords, propagateOf, partialsOf, lentOf};
 ghost use mathlib.Core.List.{[], _∷_};
@@ -79,4 +85,78 @@ pub extern "C" fn kelubashi1_partials(
     let words = states::answer::words_of(a);
     put(&words, answer);
     a.refusal
+}
+
+// The eight words of what the reader answers: number, place, then the place and the count of centres, states and requests.
+fn reading_words(reading: Reading) -> [u64; 8]
+    ensures { λ r. ⌜ r ≡ readingWords reading ⌝ }
+{
+    match reading {
+        Reading::Sections(places) => [
+            0,
+            0,
+            places.centres.place as u64,
+            places.centres.count as u64,
+            places.states.place as u64,
+            places.states.count as u64,
+            places.requests.place as u64,
+            places.requests.count as u64,
+        ],
+        Reading::Refused { number, place } => [number, place as u64, 0, 0, 0, 0, 0, 0],
+    }
+}
+
+// Where the sections of an element file stand, to an answer run of eight words.
+#[no_mangle]
+pub extern "C" fn kelubashi1_read(file: &[u8], answer: &mut [u64]) -> u64
+    ensures { λ r. ⌜ (r ≡ returned 8 (now (answer .entry)) (firstOf (readingWords (readingOf (now (file .entry)))))) × (now (answer .exit) ≡ written 8 (now (answer .entry)) (readingWords (readingOf (now (file .entry))))) ⌝ }
+{
+    if answer.len() != 8 {
+        return 60;
+    }
+    let words = reading_words(files::reader::read_file(file));
+    put(&words, answer);
+    words[0]
+}
+
+// The two words of what the writer answers: a number with its place, or 0 with the length.
+fn writing_words(writing: Writing) -> [u64; 2]
+    ensures { λ r. ⌜ r ≡ writingWords writing ⌝ }
+{
+    match writing {
+        Writing::Length(length) => [0, length as u64],
+        Writing::Refused { number, place } => [number, place as u64],
+    }
+}
+
+// Three sections as an element file, to a room, and an answer run of two words.
+#[no_mangle]
+pub extern "C" fn kelubashi1_write(
+    centres: &[u64],
+    states: &[u64],
+    requests: &[u64],
+    room: &mut [u8],
+    answer: &mut [u64],
+) -> u64
+    ensures { λ r. ⌜ (r ≡ returned 2 (now (answer .entry)) (firstOf (writingWords (writingOf (now (centres .entry)) (now (states .entry)) (now (requests .entry)) (now (room .entry)))))) × (now (answer .exit) ≡ written 2 (now (answer .entry)) (writingWords (writingOf (now (centres .entry)) (now (states .entry)) (now (requests .entry)) (now (room .entry))))) × (now (room .exit) ≡ lentBehind 2 (now (answer .entry)) (now (room .entry)) (roomOf (now (centres .entry)) (now (states .entry)) (now (requests .entry)) (now (room .entry)))) ⌝ }
+{
+    if answer.len() != 2 {
+        return 60;
+    }
+    let words = writing_words(files::writer::write_file(centres, states, requests, room));
+    put(&words, answer);
+    words[0]
+}
+
+// The result file of an element file, to a room, and an answer run of two words.
+#[no_mangle]
+pub extern "C" fn kelubashi1_results(file: &[u8], room: &mut [u8], answer: &mut [u64]) -> u64
+    ensures { λ r. ⌜ (r ≡ returned 2 (now (answer .entry)) (outcomeOf (now (file .entry)) (now (room .entry)) .number)) × (now (answer .exit) ≡ written 2 (now (answer .entry)) (outcomeWords (outcomeOf (now (file .entry)) (now (room .entry))))) × (now (room .exit) ≡ lentBehind 2 (now (answer .entry)) (now (room .entry)) (put (now (room .entry)) 0 (resultFile (now (file .entry))))) ⌝ }
+{
+    if answer.len() != 2 {
+        return 60;
+    }
+    let outcome = results::write_results(file, room);
+    put(&[outcome.number, outcome.length as u64], answer);
+    outcome.number
 }

@@ -1,14 +1,13 @@
 -- The places of an accepted file are small; a result file is its rows, one after another.
 use mathlib.Core.Path.{_≡_, refl, sym, ap, _∙_, subst}
-use mathlib.Core.List.{List, [], _∷_, _++_}
-use Prim.Native.Nat.{ℕ, zero, suc, _+_, _*_, _^_, _<_, _≤_}
+use mathlib.Core.List.{List, [], _∷_}
+use Prim.Native.Nat.{ℕ, zero, suc, _*_, _^_, _<_, _≤_}
 use native.Mathlib.Omega.{arith}
 use borrow.Author.Tests.{le-leb, lt-leb}
 use lib.ListN.{length, length-append}
-use Rattle.bits.specs.Choice.{pick}
 use Rattle.arcs.specs.Results.{figuresOf}
 use Rattle.states.specs.Call.{answerWords}
-use Rattle.runs.specs.Words.{wordAt, written, put}
+use Rattle.runs.specs.Words.{written, put}
 use Rattle.runs.proofs.WordLaws.{length-written, written-append}
 use Rattle.runs.proofs.PutLaws.{put-next, put-outside, length-put}
 use Rattle.files.specs.Reader.{sectionsOf}
@@ -16,7 +15,6 @@ use Rattle.files.specs.declared.reader.Places.{Places}
 use Rattle.files.proofs.Accepted.{counts-within}
 use Rattle.files.proofs.Laws.{accepted-sound}
 use Rattle.results.specs.Results.{Accepted, requestWords, rowOf, rowsOf, rowPlace, sectionsWords, fits}
-use Rattle.results.specs.declared.Outcome.{Outcome}
 
 -- ---- Places and counts.
 abbrev pub Small : Places → Type 0

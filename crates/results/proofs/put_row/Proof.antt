@@ -7,7 +7,6 @@ use borrow.Author.Needs.{needs}
 use lib.ListN.{length, take, length-take}
 use Rattle.arcs.specs.Results.{figuresOf}
 use Rattle.states.specs.Call.{answerWords, propagateOf}
-use Rattle.states.specs.declared.figures.Answer.{Answer}
 use Rattle.runs.specs.Words.{written, put}
 use Rattle.results.proofs.Rows.{small}
 use Rattle.results.specs.Results.{rowOf}

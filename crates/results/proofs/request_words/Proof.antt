@@ -8,7 +8,7 @@ use Rattle.runs.specs.Words.{wordAt}
 use Rattle.files.specs.declared.reader.Places.{Places}
 use Rattle.files.proofs.Laws.{centre-of-state, state-of-request}
 use Rattle.results.proofs.Rows.{small}
-use Rattle.results.specs.Results.{Accepted, requestPlace, eightWords, requestWords}
+use Rattle.results.specs.Results.{Accepted, eightWords, requestWords}
 use Rattle.results.proofs.request_words.Statement.{statement}
 use Rattle.results.proofs.request_words.Tie as tie
 

@@ -1,5 +1,4 @@
 -- The three words fit, or nothing is written.
-use mathlib.Core.Path.{_∙_}
 use mathlib.Core.List.{[], _∷_}
 use borrow.Author.Needs.{needs}
 use Rattle.runs.specs.Words.{written}
