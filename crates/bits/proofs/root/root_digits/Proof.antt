@@ -1,65 +1,75 @@
--- The invariant: after i steps the first 2 i digits are the square of q and what it leaves.
-use Prim.Native.Nat.{_-_, _^_, _≤_, _<_}
+-- The invariant: `twice` has the digits above the turn's two, and `left` what their square leaves.
+use Prim.Native.Nat.{_*_}
 use native.Mathlib.Omega.{arith}
 use mathlib.Core.Logic.{⊎-elim}
-use Rattle.bits.proofs.Digits.{Prefix, start, set-one, set-zero, q-small, finished}
+use Rattle.bits.proofs.Digits.{Prefix, Turn, start, first, set-one, set-none, small, again, finished}
 use Rattle.bits.proofs.root.root_digits.Statement.{statement}
 use Rattle.bits.proofs.root.root_digits.Tie as tie
 
 abbrev Inv-loop : tie.InvT-loop
-Inv-loop m q₀ left₀ rest₀ i₀ q left rest i = Prefix m i q left rest × (i ≤ 54)
+Inv-loop m left₀ twice₀ digit₀ left twice digit = Turn m left twice digit
 
 abbrev μ-loop : tie.MeasureT-loop
-μ-loop m q₀ left₀ rest₀ i₀ q left rest i = 54 - i
+μ-loop m left₀ twice₀ digit₀ left twice digit = digit
 
-small : (c : tie.At-loop Inv-loop μ-loop) → c .loop .q < 2 ^ 54
-small c = q-small _ _ _ _ _ (c .loop .inv .0) (c .loop .inv .1)
+mul-left : tie.Need-mul-left Inv-loop μ-loop
+mul-left c = omega arith
 
 loop-holds : tie.Need-loop-holds Inv-loop μ-loop
-loop-holds c = (start _ (c .pre), omega arith)
+loop-holds c = start _ (c .pre)
 
-mul-have : tie.Need-mul-have Inv-loop μ-loop
-mul-have c = omega (arith, small (c .before))
+begun : (c : tie.In-loop Inv-loop μ-loop) → Prefix (c .before .before .args .m) (2 * (2 * c .before .loop .digit)) (c .before .loop .left) (c .before .loop .twice)
+begun c = first (c .before .loop .inv) (c .loop-test .taken)
 
-add-have : tie.Need-add-have Inv-loop μ-loop
-add-have c = omega (arith, small (c .before))
+mul-first : tie.Need-mul-first Inv-loop μ-loop
+mul-first c = omega (arith, small (begun c))
 
-mul-rest : tie.Need-mul-rest Inv-loop μ-loop
-mul-rest c = omega arith
+add-first : tie.Need-add-first Inv-loop μ-loop
+add-first c = omega (arith, small (begun c))
 
-mul-take : tie.Need-mul-take Inv-loop μ-loop
-mul-take c = omega (arith, small (c .before))
+mul-twice : tie.Need-mul-twice Inv-loop μ-loop
+mul-twice c = omega (arith, small (begun (c .before)))
 
-add-take : tie.Need-add-take Inv-loop μ-loop
-add-take c = omega (arith, small (c .before))
+add-twice : tie.Need-add-twice Inv-loop μ-loop
+add-twice c = omega (arith, small (begun (c .before)))
 
-mul-q : tie.Need-mul-q Inv-loop μ-loop
-mul-q c = omega (arith, small (c .before .before))
+halfway : (c : tie.Joined1 Inv-loop μ-loop) → Prefix (c .before .before .before .args .m) (2 * c .before .before .loop .digit) (c .if1 .left * 2) (c .if1 .twice)
+halfway c =
+    ⊎-elim
+    (λ w. rw (w .1, w .2) (set-one (begun (c .before)) (omega arith)))
+    (λ w. rw (w .1, w .2) (set-none (begun (c .before)) (omega arith)))
+    (c .if1 .came)
 
-add-q : tie.Need-add-q Inv-loop μ-loop
-add-q c = omega (arith, small (c .before .before))
+mul-left-2 : tie.Need-mul-left-2 Inv-loop μ-loop
+mul-left-2 c = omega (arith, small (halfway (c .before)))
 
-mul-q-2 : tie.Need-mul-q-2 Inv-loop μ-loop
-mul-q-2 c = omega (arith, small (c .before .before))
+add-second : tie.Need-add-second Inv-loop μ-loop
+add-second c = omega (arith, small (halfway (c .before .before)))
 
-add-i : tie.Need-add-i Inv-loop μ-loop
-add-i c = omega arith
+add-twice-2 : tie.Need-add-twice-2 Inv-loop μ-loop
+add-twice-2 c = omega (arith, small (halfway (c .before .before .before)))
+
+ended : (c : tie.Joined2 Inv-loop μ-loop) → Prefix (c .before .before .before .before .before .before .args .m) (c .before .before .before .before .before .loop .digit) (c .if2 .left * 2) (c .if2 .twice)
+ended c =
+    let half = halfway (c .before .before .before) in
+    ⊎-elim
+    (λ w. rw (w .1, w .2) (set-one half (omega arith)))
+    (λ w. rw (w .1, w .2) (set-none half (omega arith)))
+    (c .if2 .came)
+
+mul-left-3 : tie.Need-mul-left-3 Inv-loop μ-loop
+mul-left-3 c = omega (arith, small (ended (c .before)))
 
 loop-less : tie.Need-loop-less Inv-loop μ-loop
 loop-less c = omega arith
 
 loop-again : tie.Need-loop-again Inv-loop μ-loop
 loop-again c =
-    let inv = c .before .before .loop .inv .0 in (
-      ⊎-elim
-          (λ w. rw (w .1, w .2) (set-one _ _ _ _ _ inv (w .0 .taken)))
-          (λ w. rw (w .1, w .2) (set-zero _ _ _ _ _ inv (w .0 .left)))
-          (c .if1 .came),
-      omega arith,
-    )
+    let before = c .before .before .before .before .before in
+    again (before .before .loop .inv) (before .loop-test .taken) (ended (c .before))
 
 returns : tie.Need-returns Inv-loop μ-loop
-returns c = finished _ _ _ _ _ (c .before .loop .inv .0) (omega arith)
+returns c = finished (c .before .loop .inv) (omega arith)
 
 pub root-digits-spec : {M : Type 1} → statement M
 root-digits-spec =
@@ -67,16 +77,16 @@ root-digits-spec =
     (tie.spec
     Inv-loop
     μ-loop
+    mul-left
     loop-holds
-    mul-have
-    add-have
-    mul-rest
-    mul-take
-    add-take
-    mul-q
-    add-q
-    mul-q-2
-    add-i
+    mul-first
+    add-first
+    mul-twice
+    add-twice
+    mul-left-2
+    add-second
+    add-twice-2
+    mul-left-3
     loop-less
     loop-again
     returns)
