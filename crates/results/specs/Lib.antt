@@ -1,2 +1,3 @@
 -- Layer 5: the result file.
 pub mod Results
+pub mod Cases
