@@ -24,7 +24,7 @@ use Rattle.files.specs.declared.writer.Writing.the-variants.{Length}
 use Rattle.files.specs.Sections.{widthOf, numberFault, statesPlace, requestsPlace, endPlace}
 use Rattle.files.specs.Reader.{fileCheck, placesOf, sectionsOf, readingBy, readingOf}
 use Rattle.files.specs.Writer.{recordsIn, lengthOf, refusalOf, fileOf, writingBy, roomBy, writingOf, roomOf}
-use Rattle.files.specs.Held.{held, Writable}
+use Rattle.files.specs.Held.{held, ReadsAs, WrittenAs, Writable}
 use Rattle.files.proofs.Accepted.{counts-within, states-sound, requests-sound}
 use Rattle.files.proofs.WriteLaws.{fits}
 use Rattle.files.proofs.SectionLaws.{runAt, read-each}
@@ -63,13 +63,12 @@ at-start room file h =
     let all : 0 + length file ≡ length file = omega arith in
     put-fits room file 0 (omega arith) ∙ ap (λ (n : ℕ). file ++ drop n room) all
 
+-- ---- "An accepted file written again is the same bytes", in any room that is long enough.
+
 again : (file : List ℕ) → Below 256 file → fileCheck file ≡ Sound → (room : List ℕ) → length file ≤ length room →
     let c = wordAt file 8 in
     let s = wordAt file (statesPlace c) in
-    let C = runAt file 8 Centres in
-    let S = runAt file (statesPlace c) States in
-    let R = runAt file (requestsPlace c s) Requests in
-    (writingOf C S R room ≡ Length (length file)) × (roomOf C S R room ≡ file ++ drop (length file) room)
+    WrittenAs (runAt file 8 Centres) (runAt file (statesPlace c) States) (runAt file (requestsPlace c s) Requests) room file
 again file bytes sound room h =
     let c = wordAt file 8 in
     let s = wordAt file (statesPlace c) in
@@ -80,48 +79,44 @@ again file bytes sound room h =
     let p = read-file-proper file sound in
     let long : length file ≡ endPlace c s r = read-length file sound in
     let w = sound-written C S R room (proper-accepted C S R c s r p (length room) (omega arith)) in
-    (w .0 ∙ ap Length (proper-length C S R c s r p ∙ sym long), w .1 ∙ ap (put room 0) (read-bytes file sound bytes) ∙ at-start room file h)
+    record {
+      accepted = w .0 ∙ ap Length (proper-length C S R c s r p ∙ sym long);
+      same = w .1 ∙ ap (put room 0) (read-bytes file sound bytes) ∙ at-start room file h;
+    }
 
--- ---- "An accepted file written again is the same bytes": at the start of any room that is long enough, which keeps its bytes beyond.
 pub written-again : (file : List ℕ) (places : Places) → Below 256 file → readingOf file ≡ Sections places →
     (room : List ℕ) → length file ≤ length room →
-    let C = held file Centres (places .centres) in
-    let S = held file States (places .states) in
-    let R = held file Requests (places .requests) in
-    (writingOf C S R room ≡ Length (length file)) × (roomOf C S R room ≡ file ++ drop (length file) room)
+    WrittenAs (held file Centres (places .centres)) (held file States (places .states)) (held file Requests (places .requests)) room file
 unfolding sectionsOf
 written-again file places bytes e room h =
     let a = accepted-sound file places e in
-    let goal : Places → Type 0 = λ x.
-    let C = held file Centres (x .centres) in
-    let S = held file States (x .states) in
-    let R = held file Requests (x .requests) in
-    (writingOf C S R room ≡ Length (length file)) × (roomOf C S R room ≡ file ++ drop (length file) room)
-    in
-    subst goal (a .1) (again file bytes (a .0) room h)
+    subst (λ (x : Places). WrittenAs (held file Centres (x .centres)) (held file States (x .states)) (held file Requests (x .requests)) room file)
+    (a .1) (again file bytes (a .0) room h)
 
 -- ---- "What is written reads back as the same sections", words included.
+
 back : (C S R : List ℕ) (c s r : ℕ) → ProperFile C S R c s r → Below (2 ^ 64) C → Below (2 ^ 64) S → Below (2 ^ 64) R →
-    let file = fileOf C S R in
-    let places = placesOf c s r in
-    (readingOf file ≡ Sections places)
-    × (held file Centres (places .centres) ≡ C) × (held file States (places .states) ≡ S) × (held file Requests (places .requests) ≡ R)
+    ReadsAs (fileOf C S R) (placesOf c s r) C S R
 unfolding readingOf sectionsOf
 back C S R c s r p bc bs br =
     let file = fileOf C S R in
     let ec : wordAt file 8 ≡ c = centres-count C S R c s r p bc bs br in
-    let es : wordAt file (statesPlace (wordAt file 8)) ≡ s = ap (λ (k : ℕ). wordAt file (statesPlace k)) ec ∙ states-count C S R c s r p bc bs br in
-    let er : wordAt file (requestsPlace (wordAt file 8) (wordAt file (statesPlace (wordAt file 8)))) ≡ r =
-    ap₂ (λ (k l : ℕ). wordAt file (requestsPlace k l)) ec es ∙ requests-count C S R c s r p bc bs br
-    in (
-      ap (λ (k : Check). readingBy k (sectionsOf file)) (file-sound C S R c s r p bc bs br)
-          ∙ ap Sections (λ i. placesOf (ec i) (es i) (er i)),
-      ap (λ (k : ℕ). held file Centres (record { place = 8; count = k })) (sym ec) ∙ centres-held C S R c s r p bc bs br,
-      ap (λ (k : ℕ). held file States (record { place = statesPlace c; count = k })) (sym (states-count C S R c s r p bc bs br)) ∙ states-held C S R c s r p bc bs br,
-      ap (λ (k : ℕ). held file Requests (record { place = requestsPlace c s; count = k })) (sym (requests-count C S R c s r p bc bs br)) ∙ requests-held C S R c s r p bc bs br,
-    )
+    let es : wordAt file (statesPlace c) ≡ s = states-count C S R c s r p bc bs br in
+    let er : wordAt file (requestsPlace c s) ≡ r = requests-count C S R c s r p bc bs br in
+    let fs : wordAt file (statesPlace (wordAt file 8)) ≡ s = ap (λ (k : ℕ). wordAt file (statesPlace k)) ec ∙ es in
+    let fr : wordAt file (requestsPlace (wordAt file 8) (wordAt file (statesPlace (wordAt file 8)))) ≡ r =
+    ap₂ (λ (k l : ℕ). wordAt file (requestsPlace k l)) ec fs ∙ er
+    in
+    record {
+      accepted =
+          ap (λ (k : Check). readingBy k (sectionsOf file)) (file-sound C S R c s r p bc bs br)
+          ∙ ap Sections (λ i. placesOf (ec i) (fs i) (fr i));
+      same-centres = ap (λ (k : ℕ). held file Centres (record { place = 8; count = k })) (sym ec) ∙ centres-held C S R c s r p bc bs br;
+      same-states = ap (λ (k : ℕ). held file States (record { place = statesPlace c; count = k })) (sym es) ∙ states-held C S R c s r p bc bs br;
+      same-requests = ap (λ (k : ℕ). held file Requests (record { place = requestsPlace c s; count = k })) (sym er) ∙ requests-held C S R c s r p bc bs br;
+    }
 
-module _ (C S R room : List ℕ) (n : ℕ) (e : writingOf C S R room ≡ Length n) where
+module _ (C S R room : List ℕ) (n : ℕ) (e : writingOf C S R room ≡ Length n) (bc : Below (2 ^ 64) C) (bs : Below (2 ^ 64) S) (br : Below (2 ^ 64) R) where
   sound : refusalOf C S R (length room) ≡ Sound
   sound = written-sound C S R room n e .0
 
@@ -137,29 +132,20 @@ module _ (C S R room : List ℕ) (n : ℕ) (e : writingOf C S R room ≡ Length 
   proper : ProperFile C S R c s r
   proper = accepted-proper C S R (length room) sound
 
-  module _ (bc : Below (2 ^ 64) C) (bs : Below (2 ^ 64) S) (br : Below (2 ^ 64) R) where
-    -- The first n bytes of the room are the file, and the others are as they were.
-    pub written-file : (length (fileOf C S R) ≡ n) × (roomOf C S R room ≡ fileOf C S R ++ drop n room)
-    written-file =
-        let long : length (fileOf C S R) ≡ n = file-length C S R c s r proper bc bs br ∙ sym (proper-length C S R c s r proper) ∙ written-sound C S R room n e .1 in
-        let enough : length (fileOf C S R) ≤ length room = omega (arith, fits C S R (length room) sound .roomy, written-sound C S R room n e .1) in
-        (long, sound-written C S R room sound .1 ∙ at-start room (fileOf C S R) enough ∙ ap (λ (k : ℕ). fileOf C S R ++ drop k room) long)
+  long : length (fileOf C S R) ≡ n
+  long = file-length C S R c s r proper bc bs br ∙ sym (proper-length C S R c s r proper) ∙ written-sound C S R room n e .1
 
-    first-bytes : take n (roomOf C S R room) ≡ fileOf C S R
-    first-bytes = ap (take n) (written-file .1) ∙ take-at (fileOf C S R) (drop n room) n (written-file .0)
+  pub written-file : WrittenAs C S R room (fileOf C S R)
+  written-file =
+      let enough : length (fileOf C S R) ≤ length room = omega (arith, fits C S R (length room) sound .roomy, written-sound C S R room n e .1, long) in
+      record { accepted = e ∙ ap Length (sym long); same = sound-written C S R room sound .1 ∙ at-start room (fileOf C S R) enough }
 
-    pub reads-back :
-        let file = take n (roomOf C S R room) in
-        let places = placesOf c s r in
-        (readingOf file ≡ Sections places)
-        × (held file Centres (places .centres) ≡ C) × (held file States (places .states) ≡ S) × (held file Requests (places .requests) ≡ R)
-    reads-back =
-        let goal : List ℕ → Type 0 = λ file.
-        let places = placesOf c s r in
-        (readingOf file ≡ Sections places)
-        × (held file Centres (places .centres) ≡ C) × (held file States (places .states) ≡ S) × (held file Requests (places .requests) ≡ R)
-        in
-        subst goal (sym first-bytes) (back C S R c s r proper bc bs br)
+  pub reads-back : ReadsAs (take n (roomOf C S R room)) (placesOf c s r) C S R
+  reads-back =
+      let first : take n (roomOf C S R room) ≡ fileOf C S R =
+      ap (take n) (written-file .same) ∙ take-at (fileOf C S R) (drop (length (fileOf C S R)) room) n long
+      in
+      subst (λ (file : List ℕ). ReadsAs file (placesOf c s r) C S R) (sym first) (back C S R c s r proper bc bs br)
 
 -- ---- The reader accepts exactly the files that some sections write, and refuses exactly those that none do.
 held-below : (file : List ℕ) (section : Section) (at : Located) → Below 256 file → Below (2 ^ 64) (held file section at)
@@ -168,39 +154,40 @@ held-below file section at h =
     below-take (2 ^ 64) (at .count * widthOf section) (wordsFrom file (at .place + 8))
     (words-below ((length file - (at .place + 8)) / 8) (drop (at .place + 8) file) (below-drop 256 (at .place + 8) file h))
 
-pub accepted-is-written : (file : List ℕ) (places : Places) → Below 256 file → readingOf file ≡ Sections places → Writable file
-accepted-is-written file places bytes e =
-    let w = written-again file places bytes e file (omega arith) in
+pub accepted-is-writable : (file : List ℕ) (places : Places) → Below 256 file → readingOf file ≡ Sections places → Writable file
+accepted-is-writable file places bytes e =
     record {
       centres = held file Centres (places .centres);
       states = held file States (places .states);
       requests = held file Requests (places .requests);
       room = file;
       words = (held-below file Centres (places .centres) bytes, held-below file States (places .states) bytes, held-below file Requests (places .requests) bytes);
-      accepted = w .0;
-      same = ap (take (length file)) (w .1) ∙ take-at file (drop (length file) file) (length file) refl;
+      written = written-again file places bytes e file (omega arith);
     }
 
-pub written-is-accepted : (file : List ℕ) (w : Writable file) →
+pub writable-is-accepted : (file : List ℕ) (w : Writable file) →
     readingOf file
     ≡ Sections (placesOf (recordsIn Centres (length (w .centres))) (recordsIn States (length (w .states))) (recordsIn Requests (length (w .requests))))
-written-is-accepted file w =
-    sym (ap readingOf (w .same))
-    ∙ reads-back (w .centres) (w .states) (w .requests) (w .room) (length file) (w .accepted) (w .words .0) (w .words .1) (w .words .2) .0
+writable-is-accepted file w =
+    let first : take (length file) (roomOf (w .centres) (w .states) (w .requests) (w .room)) ≡ file =
+    ap (take (length file)) (w .written .same) ∙ take-at file (drop (length file) (w .room)) (length file) refl
+    in
+    sym (ap readingOf first)
+    ∙ reads-back (w .centres) (w .states) (w .requests) (w .room) (length file) (w .written .accepted) (w .words .0) (w .words .1) (w .words .2) .accepted
 
-pub refused-is-not-written : (file : List ℕ) (number place : ℕ) → readingOf file ≡ Refused number place → Writable file → ⊥
-refused-is-not-written file number place e w =
-    let f = written-is-accepted file w in
+pub refused-is-not-writable : (file : List ℕ) (number place : ℕ) → readingOf file ≡ Refused number place → Writable file → ⊥
+refused-is-not-writable file number place e w =
+    let f = writable-is-accepted file w in
     let z : _≡_ {A = ℕ} 0 1 = cc in
     omega arith
 
 refused-by : (file : List ℕ) (x : Reading) → readingOf file ≡ x → Below 256 file → (Writable file → ⊥) →
     (number : ℕ) × (place : ℕ) × (readingOf file ≡ Refused number place)
-refused-by file (Sections places) e bytes h = absurd (h (accepted-is-written file places bytes e))
+refused-by file (Sections places) e bytes h = absurd (h (accepted-is-writable file places bytes e))
 refused-by file (Refused number place) e bytes h = (number, place, e)
 
-pub not-written-is-refused : (file : List ℕ) → Below 256 file → (Writable file → ⊥) → (number : ℕ) × (place : ℕ) × (readingOf file ≡ Refused number place)
-not-written-is-refused file bytes h = refused-by file (readingOf file) refl bytes h
+pub not-writable-is-refused : (file : List ℕ) → Below 256 file → (Writable file → ⊥) → (number : ℕ) × (place : ℕ) × (readingOf file ≡ Refused number place)
+not-writable-is-refused file bytes h = refused-by file (readingOf file) refl bytes h
 
 -- ---- "at most 56,160 bytes".
 pub accepted-length : (file : List ℕ) (places : Places) → readingOf file ≡ Sections places → length file ≤ 56160

@@ -16,12 +16,12 @@ use Rattle.files.specs.declared.reader.Reading.{Reading}
 use Rattle.files.specs.declared.reader.Reading.the-variants.{Sections, Refused}
 use Rattle.files.specs.Sections.{widthOf, limitOf, statesPlace, requestsPlace, endPlace, ruleOf, need, _⟫_, walk}
 
--- The edition, 1, is the first word.
+-- "the edition, 1": the first word.
 unfoldable pub editionCheck : List ℕ → Check
 unfolding wordAt
 editionCheck file = need (leb 8 (length file)) 21 0 ⟫ need (eqb (wordAt file 0) 1) 22 0
 
--- A section at a place: its count, then the words of its records.
+-- "each after its count": a section at a place is its count, within its limit, then the words of so many records.
 unfoldable pub countCheck : List ℕ → ℕ → Section → Check
 unfolding wordAt
 countCheck file place section = need (leb (place + 8) (length file)) 21 place ⟫ need (leb (wordAt file place) (limitOf section)) 23 place
@@ -32,7 +32,7 @@ sectionCheck file place section below =
     countCheck file place section
     ⟫ walk (ruleOf section below) (place + 8) 0 (wordAt file place * widthOf section) (wordsFrom file (place + 8))
 
--- Bytes left after the last section.
+-- "25 bytes left after the last section", at the first of them.
 abbrev pub endCheck : List ℕ → ℕ → Check
 endCheck file end = need (leb (length file) end) 25 end
 

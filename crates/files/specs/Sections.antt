@@ -51,7 +51,8 @@ faultOf Requests below field w = numberFault below field w
 abbrev pub ruleOf : Section → ℕ → ℕ → ℕ → ℕ
 ruleOf section below j w = faultOf section below (j % widthOf section) w
 
--- ---- Checks. The first fault in order is the refusal.
+-- ---- Checks: nothing wrong, or a refusal's number and its place. What has to hold; what a word's rule tells, 0 being nothing; one check before another, where
+-- the first fault is the refusal.
 
 abbrev pub need : Bool → ℕ → ℕ → Check
 need true number place = Sound

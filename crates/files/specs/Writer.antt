@@ -68,7 +68,7 @@ refusalOf centres states requests room =
     ⟫ numberChecks centres states requests
     ⟫ roomCheck (lengthOf c s r) room
 
--- ---- The file: the edition, then each section after its count.
+-- ---- "the edition, 1; then sections in a fixed order, each after its count".
 abbrev pub sectionWords : Section → List ℕ → List ℕ
 sectionWords section run = recordsIn section (length run) ∷ run
 
@@ -79,7 +79,7 @@ unfoldable pub fileOf : List ℕ → List ℕ → List ℕ → List ℕ
 unfolding written fileWords
 fileOf centres states requests = written (fileWords centres states requests)
 
--- ---- The answer, and the room afterwards.
+-- ---- "Else it answers the length. Room beyond the file keeps its bytes." A refusal leaves the whole room as it was.
 abbrev pub writingBy : Check → ℕ → Writing
 writingBy Sound length = Length length
 writingBy (Fault number place) length = Refused number place
