@@ -1,21 +1,13 @@
--- What is finite is no NaN; and where all are finite, each is.
+-- Where all are finite, each is.
 use mathlib.Core.Path.{_≡_, refl, sym}
-use mathlib.Core.Bool.{Bool, true, false, not, _&&_, true≢false}
+use mathlib.Core.Bool.{Bool, true, false, _&&_, true≢false}
 use mathlib.Core.List.{List, [], _∷_}
 use Prim.Native.Nat.{ℕ, zero, suc, _<_}
 use native.Mathlib.Omega.{arith}
-use lib.Dec.{T}
 use lib.ListN.{length, getD}
-use lib.Ieee.{Float, nan, inf, fin, isNan}
+use lib.Ieee.{Float, nan}
 use Rattle.bits.specs.Arithmetic.{isFinite}
 use Rattle.arcs.specs.Finite.{allFinite}
-
--- What `f64::to_bits` asks.
-pub finite-number : (x : Float) → isFinite x ≡ true → T (not (isNan x))
-unfolding isNan
-finite-number nan h = absurd (true≢false (sym h))
-finite-number (inf s) h = absurd (true≢false (sym h))
-finite-number (fin s m e) h = tt
 
 pub each-finite : (xs : List Float) (k : ℕ) → allFinite xs ≡ true → k < length xs → isFinite (getD xs k nan) ≡ true
 unfolding allFinite

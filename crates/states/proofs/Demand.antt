@@ -7,22 +7,20 @@ use Prim.Native.Nat.{ℕ}
 use native.Mathlib.Omega.{arith}
 use borrow.Author.Tests.{eq-eqb}
 use lib.Dec.{eqb}
-use lib.Ieee.{lt}
 use lib.ListN.{length}
 use Rattle.bits.specs.Choice.{pick}
-use Rattle.bits.specs.Arithmetic.{n0}
 use Rattle.search.specs.Search.{searchOf}
 use Rattle.search.specs.Trial.{anomalyAt}
 use Rattle.search.specs.declared.figures.Answer.{Answer as Found}
 use Rattle.search.proofs.Instance.{demand3}
-use Rattle.arcs.specs.Finite.{allFinite, anyZero}
-use Rattle.arcs.specs.Results.{arcOf, resultsOf, divisorsOf, figuresOf, endedOf}
+use Rattle.arcs.specs.Results.{arcOf, resultsOf, endedOf}
 use Rattle.arcs.specs.declared.figures.Arc.{Arc}
 use Rattle.arcs.specs.declared.figures.Results.{Results}
 use Rattle.arcs.specs.declared.figures.Ended.{Ended}
 use Rattle.arcs.specs.declared.figures.Ended.the-variants as ended
-use Rattle.partials.specs.Matrix as matrix
 use Rattle.partials.specs.Entries.{entriesOf}
+use Rattle.arcs.proofs.Laws.{seven-or-eight}
+use Rattle.partials.proofs.Laws.{zero-or-eight}
 use Rattle.partials.specs.Partials.{refusalOf, lentAfter, wordsOf}
 use Rattle.states.specs.Initial.{firstStepOf}
 use Rattle.states.specs.Call.{noResults, refused, answered, reachedBy, reachedFrom, reachedBegun, reachedOrbit, reachedRead, reachedOf, endedAnswer, answerBy, propagateOf, withPartials, endedWith, lentEnded, partialsBy, lentBy, partialsOf, lentOf}
@@ -104,16 +102,6 @@ reaches words s e =
 abbrev SevenOrEight : Ended → Results → Type 0
 SevenOrEight e r = (e ≡ ended.Results r) ⊎ ((e ≡ ended.Refused 7) ⊎ (e ≡ ended.Refused 8))
 
-seven-or-eight : (arc : Arc) → SevenOrEight (endedOf arc) (resultsOf arc)
-unfolding endedOf
-seven-or-eight arc = go (lt n0 (arc .r)) (anyZero (divisorsOf (arc .initial .r0) (arc .r))) (allFinite (figuresOf (resultsOf arc)))
-  where
-    go : (a b c : Bool) → SevenOrEight (pick a (pick b (ended.Refused 8) (pick c (ended.Results (resultsOf arc)) (ended.Refused 8))) (ended.Refused 7)) (resultsOf arc)
-    go true true c = inr (inr refl)
-    go true false true = inl refl
-    go true false false = inr (inr refl)
-    go false b c = inr (inl refl)
-
 -- The same of an answer.
 abbrev Settled : Answer → ℕ → Results → Type 0
 Settled a n r = (a ≡ answered n r) ⊎ ((a ≡ refused 7 n) ⊎ (a ≡ refused 8 n))
@@ -124,23 +112,13 @@ settled n e r (inl p) = inl (ap (endedAnswer n) p)
 settled n e r (inr (inl p)) = inr (inl (ap (endedAnswer n) p))
 settled n e r (inr (inr p)) = inr (inr (ap (endedAnswer n) p))
 
--- A run of 36 is refused by 8 alone.
-eight-alone : (arc : Arc) (run : List ℕ) → length run ≡ 36 → (refusalOf arc run ≡ 0) ⊎ (refusalOf arc run ≡ 8)
-unfolding refusalOf
-eight-alone arc run h = rw (eq-eqb (length run) 36 h) (go (anyZero (matrix.divisorsOf (arc .initial .r0) (arc .r))) (allFinite (entriesOf arc)))
-  where
-    go : (a b : Bool) → (pick {A = ℕ} a 8 (pick b 0 8) ≡ 0) ⊎ (pick {A = ℕ} a 8 (pick b 0 8) ≡ 8)
-    go true b = inr refl
-    go false true = inl refl
-    go false false = inr refl
-
 settled-with : (arc : Arc) (n : ℕ) (e : Ended) (r : Results) (run : List ℕ) → length run ≡ 36 → SevenOrEight e r → Settled (endedWith arc n e run) n r
 unfolding withPartials
 settled-with arc n e r run h (inl p) =
     ⊎-elim
     (λ z. inl (ap (λ (x : Ended). endedWith arc n x run) p ∙ rw (eq-eqb (refusalOf arc run) 0 z)))
     (λ z. inr (inr (ap (λ (x : Ended). endedWith arc n x run) p ∙ ap (λ (k : ℕ). pick (eqb k 0) (answered n r) (refused k n)) z)))
-    (eight-alone arc run h)
+    (zero-or-eight arc run h)
 settled-with arc n e r run h (inr (inl p)) = inr (inl (ap (λ (x : Ended). endedWith arc n x run) p))
 settled-with arc n e r run h (inr (inr p)) = inr (inr (ap (λ (x : Ended). endedWith arc n x run) p))
 

@@ -10,12 +10,12 @@ use lib.Ieee.{binary64, nanBits, ofBits}
 use lib.Ieee.Bits.{nanBits-is}
 use Rattle.bits.specs.Arithmetic.{isFinite}
 use Rattle.bits.specs.Choice.{pick}
-use Rattle.arcs.proofs.FiniteLaws.{finite-number}
+use Rattle.bits.proofs.Doubles.{finite-no-nan}
 use Rattle.states.specs.Words.{firstNotFinite}
 
 -- What `f64::from_bits` asks.
 pub finite-word : (w : ℕ) → isFinite (ofBits binary64 w) ≡ true → T (not (nanBits binary64 w))
-finite-word w h = subst (λ (b : Bool). T (not b)) (sym (nanBits-is binary64 w)) (finite-number (ofBits binary64 w) h)
+finite-word w h = subst (λ (b : Bool). T (not b)) (sym (nanBits-is binary64 w)) (finite-no-nan (ofBits binary64 w) h)
 
 pub each-word-finite : (ws : List ℕ) (k : ℕ) → firstNotFinite ws ≡ length ws → k < length ws → isFinite (ofBits binary64 (getD ws k 0)) ≡ true
 unfolding firstNotFinite

@@ -8,7 +8,8 @@ use borrow.Author.Needs.{needs}
 use lib.ListN.{length, getD, take, set, length-set, length-map, List·getD-map}
 use lib.Seq.{take-suc, take-suc-set, take-all}
 use lib.Ieee.{Float, nan, binary64, toBits}
-use Rattle.arcs.proofs.FiniteLaws.{finite-number, each-finite}
+use Rattle.bits.proofs.Doubles.{finite-no-nan}
+use Rattle.arcs.proofs.FiniteLaws.{each-finite}
 use Rattle.partials.specs.Partials.{wordsOf}
 use Rattle.partials.proofs.write_words.Statement.{statement}
 use Rattle.partials.proofs.write_words.Tie as tie
@@ -38,7 +39,7 @@ array-read-run : tie.Need-array-read-run Inv-loop μ-loop
 array-read-run c = search needs
 
 float-to-bits-run : tie.Need-float-to-bits-run Inv-loop μ-loop
-float-to-bits-run c = finite-number _ (each-finite _ (c .before .loop .k) (c .before .before .pre .1) (omega arith))
+float-to-bits-run c = finite-no-nan _ (each-finite _ (c .before .loop .k) (c .before .before .pre .1) (omega arith))
 
 mul-run-2 : tie.Need-mul-run-2 Inv-loop μ-loop
 mul-run-2 c = search needs
