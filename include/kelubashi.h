@@ -161,8 +161,8 @@ uint64_t kelubashi1_partials(uint64_t mu, uint64_t x, uint64_t y, uint64_t z,
                              uint64_t *answer, size_t n, uint64_t *run, size_t k);
 
 /*
-**  Files are 64-bit words, each of eight bytes with the lowest first (little-endian), and nothing else.
-**  Words marked * are those of doubles and may hold any bits; the others are whole numbers.
+**  A file is a run of 64-bit words, each of eight bytes with the lowest first (little-endian). Words
+**  marked * are those of doubles and may hold any bits; the others are whole numbers.
 **
 **  Element file, edition 1; 56,160 bytes at most:
 **
@@ -199,15 +199,20 @@ enum {
     KELUBASHI_MOST_RESULTS = 132016 /* bytes of the longest result file */
 };
 
-/* The words of kelubashi1_read's answer in their order, then their count; all are whole numbers. */
+/*
+**  The words of kelubashi1_read's answer in their order, then their count; all are whole numbers.
+**
+**  The place of a section is the byte at which its count stands; its records follow. Where the file is
+**  refused, the six words of the sections are 0; where it is accepted, the place of the refusal is.
+*/
 enum {
     KELUBASHI_READ_REFUSAL = 0,     /* the status once more */
-    KELUBASHI_READ_PLACE = 1,       /* byte at which the file is refused; 0 where it is accepted */
-    KELUBASHI_READ_CENTRES = 2,     /* byte at which the count of the centres stands, and the count; */
+    KELUBASHI_READ_PLACE = 1,       /* byte at which the file is refused */
+    KELUBASHI_READ_CENTRES = 2,     /* place of the centres */
     KELUBASHI_READ_CENTRE_COUNT = 3,
-    KELUBASHI_READ_STATES = 4,      /* the same of the states */
+    KELUBASHI_READ_STATES = 4,      /* place of the states */
     KELUBASHI_READ_STATE_COUNT = 5,
-    KELUBASHI_READ_REQUESTS = 6,    /* and of the requests; these six are 0 where the file is refused */
+    KELUBASHI_READ_REQUESTS = 6,    /* place of the requests */
     KELUBASHI_READ_REQUEST_COUNT = 7,
 
     KELUBASHI_READ_ANSWER = 8       /* words of the answer run */
@@ -219,15 +224,15 @@ enum {
 */
 enum {
     KELUBASHI_WRITE_REFUSAL = 0,    /* the status once more */
-    KELUBASHI_WRITE_LENGTH = 1,     /* 0: bytes written; 26: bytes needed */
-    KELUBASHI_WRITE_PLACE = 1,      /* 23, 24: byte of the file that would have been; 27: the section */
+    KELUBASHI_WRITE_LENGTH = 1,     /* with status 0 the bytes written, with 26 the bytes needed */
+    KELUBASHI_WRITE_PLACE = 1,      /* with 23 and 24 the byte at fault, with 27 the section */
 
-    KELUBASHI_WRITE_ANSWER = 2,
+    KELUBASHI_WRITE_ANSWER = 2,     /* words of the writer's answer run */
 
     KELUBASHI_RESULTS_REFUSAL = 0,  /* the status once more */
-    KELUBASHI_RESULTS_LENGTH = 1,   /* 0: bytes written; 26: bytes needed */
+    KELUBASHI_RESULTS_LENGTH = 1,   /* with status 0 the bytes written, with 26 the bytes needed */
 
-    KELUBASHI_RESULTS_ANSWER = 2
+    KELUBASHI_RESULTS_ANSWER = 2    /* words of the results' answer run */
 };
 
 /*
@@ -240,12 +245,12 @@ enum {
 **
 **  Returned:
 **     answer    refusal, place, then place and count of the centres, of the states and of the
-**               requests, in the order of the constants above; the records follow their count
+**               requests, in the order of the constants above
 **
 **  Status, with the place of the first byte of the word at fault; the file is walked forward, and the
 **  first fault on the way is told:
 **      0        accepted
-**     21        a word that is needed is not whole: the file ends before it or in it. Place 0 if empty.
+**     21        a word that is needed is not whole: the file ends before it or in it.
 **               Fetch the file again: its end is missing, or a count is larger than its section.
 **     22        the edition is not 1.
 **               Look whether it is an element file; if so, use the library of its edition.
@@ -263,18 +268,18 @@ uint64_t kelubashi1_read(const uint8_t *file, size_t length, uint64_t *answer, s
 /*
 **  An element file of three sections.
 **
-**  Given, each run with its count of words, and of bytes for the room:
+**  Given, the records in the order of the element file above, each run with its count of words:
 **     centres   1 word for each centre
-**     states    8 words for each state
-**     requests  2 words for each request, all in the order of the element file above
-**     size      the bytes of room; KELUBASHI_MOST_FILE are always enough
+**     states    8 words for each state, KELUBASHI_STATE
+**     requests  2 words for each request, KELUBASHI_REQUEST
+**     size      the count of room, in bytes; KELUBASHI_MOST_FILE are always enough
 **     n         the count of answer: 2, KELUBASHI_WRITE_ANSWER
 **
 **  Returned:
 **     room      the file, with status 0; bytes behind it are left, and under a refusal all are
 **     answer    refusal, then the length written or the place of the refusal
 **
-**  Status, the first that applies in the order 27, 23, 24, 26; under one number, the first in the file:
+**  Status, the first that applies in the order 27, 23, 24, 26; under one number the first in the file:
 **      0        written; the second word is the length
 **     23        too many records: above 16 centres, 500 states or 1,500 requests.
 **               Divide them over several files. The place is that of the count word.
@@ -298,11 +303,12 @@ uint64_t kelubashi1_write(const uint64_t *centres, size_t centre_words,
 **  Given:
 **     file      the bytes of the element file; any bytes may be given
 **     length    their count
-**     size      the bytes of room; KELUBASHI_MOST_RESULTS are always enough
+**     size      the count of room, in bytes; KELUBASHI_MOST_RESULTS are always enough
 **     n         the count of answer: 2, KELUBASHI_RESULTS_ANSWER
 **
 **  Returned:
-**     room      the result file, with status 0; bytes behind it are left, and under a refusal all are
+**     room      the result file, with status 0; bytes behind it are left, and under a refusal all
+**               are. It must not be the room of the element file.
 **     answer    refusal, then the length written or needed
 **
 **  Status:
