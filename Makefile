@@ -8,14 +8,13 @@
 
 X86 = sh tests/machine.sh
 STRICT = -std=c99 -Wall -Wextra -pedantic -Werror -O2 -ffp-contract=off
-TESTS = build/tests/root build/tests/cases build/tests/second/selftest build/tests/propagate
+TESTS = build/tests/root build/tests/cases build/tests/case_files build/tests/second/selftest $(COMPARISONS)
 
-# The library against the second program. Each comes to TESTS with the entry points that it calls:
-# propagate with kelubashi1_propagate and _partials, files with kelubashi1_read, _write and _results.
+# The library against the second program: states and partials, then files.
 COMPARISONS = build/tests/propagate build/tests/files
 
 # What make fuzz runs, for how many inputs each, of which seed, and from which number on.
-FUZZ = $(filter $(COMPARISONS),$(TESTS))
+FUZZ = $(COMPARISONS)
 N = 1000000
 SEED := $(shell date +%s)
 FIRST = 0
@@ -38,7 +37,7 @@ test: machine header edition readme build/host/propagate $(TESTS)
 	@for test in $(TESTS); do $(X86) run "$$test" || exit 1; done
 
 fuzz: machine $(FUZZ)
-	@echo 'fuzz: $(N) inputs of seed $(SEED) each, from number $(FIRST) on, to: $(or $(FUZZ),none: add a comparison to TESTS)'
+	@echo 'fuzz: $(N) inputs of seed $(SEED) each, from number $(FIRST) on, to: $(FUZZ)'
 	@for test in $(FUZZ); do $(X86) run "$$test" $(N) $(SEED) $(FIRST) || exit 1; done
 
 bench: machine $(BENCH:%=build/bench/%)
@@ -77,6 +76,7 @@ SECOND = $(patsubst %,build/tests/second/%.o,root series search states files)
 SELFTEST = $(patsubst %,build/tests/second/selftest%.o,_root _calls _orbits _files)
 HEADERS = include/kelubashi.h $(wildcard tests/*.h tests/second/*.h)
 
+build/tests/case_files: build/tests/expected.o
 build/tests/propagate: $(patsubst %,build/tests/%.o,drive orbits aimed aimed_search inputs aims) $(SECOND)
 build/tests/files: $(patsubst %,build/tests/%.o,drive orbits sections damaged lent) $(SECOND)
 

@@ -1,0 +1,229 @@
+#include "expected.h"
+
+#include <inttypes.h>
+#include <stdio.h>
+#include <stdlib.h>
+#include <string.h>
+
+#define EDGE 8     /* bytes before and behind a room */
+
+/* What a call is lent, with a word or some bytes on either side. */
+struct memory {
+    uint64_t answer[1 + KELUBASHI_READ_ANSWER + 1];
+    uint8_t room[EDGE + MOST_ROOM + EDGE];
+};
+
+struct file file;
+struct runs runs;
+unsigned calls;
+
+static struct file results;
+static struct memory lent, right;     /* filled alike; what has to be written is then put to the second */
+
+/* ---- what is lent, and what has to be there afterwards ---- */
+
+static void fill(struct memory *memory)
+{
+    size_t i;
+
+    for (i = 0; i < sizeof memory->answer / sizeof memory->answer[0]; i++)
+        memory->answer[i] = UINT64_C(0x5EED5EED5EED5EED) + i;
+    for (i = 0; i < sizeof memory->room; i++)
+        memory->room[i] = (uint8_t)(0xA5 + i % 251);
+}
+
+static void lend(void)
+{
+    fill(&lent);
+    fill(&right);
+    calls++;
+}
+
+/* Ends the test with what differs. */
+static void differs(const char *name, const char *call, const char *what, long place, uint64_t value, uint64_t expected)
+{
+    printf("case_files: %s: %s: %s %ld: %" PRIX64 ", expected %" PRIX64 " (hex)\n", name, call, what, place, value,
+           expected);
+    exit(EXIT_FAILURE);
+}
+
+/* The status, and all that was lent, from edge to edge. */
+static void expect(const char *name, const char *call, uint64_t status, uint64_t expected)
+{
+    long i;
+
+    if (status != expected)
+        differs(name, call, "status, place", 0, status, expected);
+    for (i = -1; i <= KELUBASHI_READ_ANSWER; i++)
+        if (lent.answer[1 + i] != right.answer[1 + i])
+            differs(name, call, "answer, word", i, lent.answer[1 + i], right.answer[1 + i]);
+    for (i = -EDGE; i < MOST_ROOM + EDGE; i++)
+        if (lent.room[EDGE + i] != right.room[EDGE + i])
+            differs(name, call, "room, byte", i, lent.room[EDGE + i], right.room[EDGE + i]);
+}
+
+/* ---- files of words ---- */
+
+/* "Little-endian 64-bit words". */
+void put_word(struct file *f, size_t place, uint64_t word)
+{
+    int i;
+
+    for (i = 0; i < 8; i++)
+        f->bytes[place + (size_t)i] = (uint8_t)(word >> 8 * i);
+}
+
+static void add_words(struct file *f, const uint64_t *words, size_t count)
+{
+    size_t i;
+
+    for (i = 0; i < count; i++, f->length += 8)
+        put_word(f, f->length, words[i]);
+}
+
+void words_of(struct file *f, const uint64_t *words, size_t count)
+{
+    f->length = 0;
+    add_words(f, words, count);
+}
+
+static void add_section(const uint64_t *run, size_t words, size_t width)
+{
+    uint64_t count = words / width;
+
+    add_words(&file, &count, 1);
+    add_words(&file, run, words);
+}
+
+/* "the edition, 1; then sections in a fixed order, each after its count". */
+void file_of_runs(void)
+{
+    static const uint64_t edition = 1;
+
+    words_of(&file, &edition, 1);
+    add_section(runs.centres, runs.centre_words, 1);
+    add_section(runs.states, runs.state_words, KELUBASHI_STATE);
+    add_section(runs.requests, runs.request_words, KELUBASHI_REQUEST);
+}
+
+void runs_of(size_t centre_words, size_t state_words, size_t request_words)
+{
+    memset(&runs, 0, sizeof runs);
+    runs.centre_words = centre_words;
+    runs.state_words = state_words;
+    runs.request_words = request_words;
+}
+
+/* ---- the calls; a count of 0 comes with a null pointer ---- */
+
+static const uint8_t *file_bytes(void)
+{
+    return file.length ? file.bytes : NULL;
+}
+
+static const uint64_t *run_of(const uint64_t *run, size_t words)
+{
+    return words ? run : NULL;
+}
+
+static uint8_t *room_of(size_t size)
+{
+    return size ? lent.room + EDGE : NULL;
+}
+
+static uint64_t *answer_of(size_t n)
+{
+    return n ? lent.answer + 1 : NULL;
+}
+
+static uint64_t read_file(size_t n)
+{
+    lend();
+    return kelubashi1_read(file_bytes(), file.length, answer_of(n), n);
+}
+
+static uint64_t write_runs(size_t size, size_t n)
+{
+    lend();
+    return kelubashi1_write(run_of(runs.centres, runs.centre_words), runs.centre_words,
+                            run_of(runs.states, runs.state_words), runs.state_words,
+                            run_of(runs.requests, runs.request_words), runs.request_words,
+                            room_of(size), size, answer_of(n), n);
+}
+
+static uint64_t write_results(size_t size, size_t n)
+{
+    lend();
+    return kelubashi1_results(file_bytes(), file.length, room_of(size), size, answer_of(n), n);
+}
+
+/* ---- what is expected ---- */
+
+void reads(const char *name, const uint64_t *answer)
+{
+    uint64_t status = read_file(KELUBASHI_READ_ANSWER);
+
+    memcpy(right.answer + 1, answer, KELUBASHI_READ_ANSWER * sizeof *answer);
+    expect(name, "read", status, answer[KELUBASHI_READ_REFUSAL]);
+}
+
+void writes_file(const char *name, size_t size)
+{
+    uint64_t status = write_runs(size, KELUBASHI_WRITE_ANSWER);
+
+    right.answer[1 + KELUBASHI_WRITE_REFUSAL] = 0;
+    right.answer[1 + KELUBASHI_WRITE_LENGTH] = file.length;
+    memcpy(right.room + EDGE, file.bytes, file.length);
+    expect(name, "write", status, 0);
+}
+
+void refuses_runs(const char *name, size_t size, uint64_t number, uint64_t place)
+{
+    uint64_t status = write_runs(size, KELUBASHI_WRITE_ANSWER);
+
+    right.answer[1 + KELUBASHI_WRITE_REFUSAL] = number;
+    right.answer[1 + KELUBASHI_WRITE_PLACE] = place;
+    expect(name, "write", status, number);
+}
+
+void needs_room(const char *name, size_t size, uint64_t length)
+{
+    uint64_t status = write_results(size, KELUBASHI_RESULTS_ANSWER);
+
+    right.answer[1 + KELUBASHI_RESULTS_REFUSAL] = 26;
+    right.answer[1 + KELUBASHI_RESULTS_LENGTH] = length;
+    expect(name, "results", status, 26);
+}
+
+static void writes_results_in(const char *name, size_t size)
+{
+    uint64_t status = write_results(size, KELUBASHI_RESULTS_ANSWER);
+
+    right.answer[1 + KELUBASHI_RESULTS_REFUSAL] = 0;
+    right.answer[1 + KELUBASHI_RESULTS_LENGTH] = results.length;
+    memcpy(right.room + EDGE, results.bytes, results.length);
+    expect(name, "results", status, 0);
+}
+
+void writes_results(const char *name, const uint64_t *words, size_t count)
+{
+    words_of(&results, words, count);
+    needs_room(name, 0, results.length);
+    needs_room(name, results.length - 1, results.length);
+    writes_results_in(name, results.length);
+    writes_results_in(name, results.length + TAIL);
+}
+
+void refuses_count(const char *name, size_t n)
+{
+    if (n != KELUBASHI_READ_ANSWER)
+        expect(name, "read", read_file(n), 60);
+    if (n != KELUBASHI_WRITE_ANSWER) {
+        expect(name, "write", write_runs(MOST_ROOM, n), 60);
+        expect(name, "write in no room", write_runs(0, n), 60);
+    }
+    if (n != KELUBASHI_RESULTS_ANSWER) {
+        expect(name, "results", write_results(MOST_ROOM, n), 60);
+        expect(name, "results in no room", write_results(0, n), 60);
+    }
+}

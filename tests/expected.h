@@ -1,0 +1,57 @@
+/*
+**  What the three file calls are asked with, and what is expected of them: the status, the answer, and
+**  every byte that was lent, also where nothing is to be written. A call that gives anything else
+**  ends the test and says where.
+*/
+#ifndef EXPECTED_H
+#define EXPECTED_H
+
+#include "kelubashi.h"
+
+#define TAIL 24     /* bytes of a room beyond what is written */
+#define MOST_ROOM (KELUBASHI_MOST_RESULTS + TAIL)
+
+struct file {
+    uint8_t bytes[KELUBASHI_MOST_RESULTS];
+    size_t length;
+};
+
+/* Runs of words to write, up to one record more than each limit. */
+struct runs {
+    uint64_t centres[KELUBASHI_MOST_CENTRES + 1];
+    uint64_t states[KELUBASHI_STATE * (KELUBASHI_MOST_STATES + 1)];
+    uint64_t requests[KELUBASHI_REQUEST * (KELUBASHI_MOST_REQUESTS + 1)];
+    size_t centre_words, state_words, request_words;
+};
+
+/* What the calls are asked with; and how many there were. */
+extern struct file file;
+extern struct runs runs;
+extern unsigned calls;
+
+void put_word(struct file *file, size_t place, uint64_t word);
+void words_of(struct file *file, const uint64_t *words, size_t count);
+
+/* Runs of so many words, all 0; and the file of the runs as they are. */
+void runs_of(size_t centre_words, size_t state_words, size_t request_words);
+void file_of_runs(void);
+
+/* The file is read with this answer, of 8 words. */
+void reads(const char *name, const uint64_t *answer);
+
+/* The runs are written as the file, to a room of this size, whose tail keeps its bytes. */
+void writes_file(const char *name, size_t size);
+
+/* The runs are refused in a room of this size, which keeps its bytes. */
+void refuses_runs(const char *name, size_t size, uint64_t number, uint64_t place);
+
+/* The file's results are these words: refused in no room and in one a byte short, written to others. */
+void writes_results(const char *name, const uint64_t *words, size_t count);
+
+/* The file's results do not fit in a room of this size, which keeps its bytes. */
+void needs_room(const char *name, size_t size, uint64_t length);
+
+/* An answer run of this count, where it is another than the call's, is 60, and nothing is written. */
+void refuses_count(const char *name, size_t n);
+
+#endif
