@@ -1,4 +1,5 @@
 -- The laws of this layer: read Laws.antt and OneAnswers.antt. The others serve their proofs.
 mod Reduction
+mod Parts
 pub mod Laws
 pub mod OneAnswers

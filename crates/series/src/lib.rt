@@ -7,6 +7,7 @@ pub mod figures;
 
 pub use figures::Anomaly;
 pub use figures::Coefficients;
+pub use figures::FirstSums;
 pub use figures::Seconds;
 pub use figures::Sums;
 
@@ -33,6 +34,26 @@ pub fn coefficients(alpha: f64, psi: Anomaly) -> Coefficients
         return six;
     }
     quotients(l, double(reduced.m, six.c0, six.c1))
+}
+
+// c0 and the sums of the anomaly psi, all that a trial point asks for: the compiler then leaves out the quotients of c4 and c5.
+pub fn first_sums(alpha: f64, psi: Anomaly) -> FirstSums
+    ensures { λ r. ⌜ r ≡ record { c0 = coefficientsOf alpha psi .c0; sums = sumsOf psi (coefficientsOf alpha psi) } ⌝ }
+{
+    let l = alpha * (psi.0 * psi.0);
+    let reduced = reduce(l);
+    let six = at_reduced(reduced.l);
+    if reduced.m == 0 {
+        return FirstSums {
+            c0: six.c0,
+            sums: sums(psi, six),
+        };
+    }
+    let c = quotients(l, double(reduced.m, six.c0, six.c1));
+    FirstSums {
+        c0: c.c0,
+        sums: sums(psi, c),
+    }
 }
 
 // s1, s2 and s3 of the anomaly psi whose coefficients are c.

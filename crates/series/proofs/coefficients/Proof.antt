@@ -1,26 +1,9 @@
 -- The code's test of m picks as the definition's does; what each part answers is what its function ensures.
-use mathlib.Core.Path.{_≡_, sym, _∙_, ap}
-use native.Mathlib.Omega.{arith}
 use borrow.Author.Needs.{needs}
-use borrow.Author.Tests.{lt-ltb, le-ltb}
-use lib.Ieee.{Float}
-use Rattle.series.specs.Series.{reduced, atReduced, doublings, quotientsOf, coefficientsFrom, coefficientsOf}
-use Rattle.series.specs.declared.figures.Coefficients.{Coefficients}
-use Rattle.series.specs.declared.Reduced.{Reduced}
-use Rattle.series.specs.declared.FirstTwo.{FirstTwo}
+use Rattle.series.specs.Series.{coefficientsOf}
+use Rattle.series.proofs.Parts.{undivided, divided}
 use Rattle.series.proofs.coefficients.Statement.{statement}
 use Rattle.series.proofs.coefficients.Tie as tie
-
-module _ (l : Float) (red : Reduced) (six : Coefficients) (er : red ≡ reduced l) (es : six ≡ atReduced (red .l)) where
-  undivided : red .m ≡ 0 → six ≡ coefficientsFrom l (reduced l)
-  undivided z = es ∙ sym (rw (le-ltb 0 (red .m) (omega arith))) ∙ ap (coefficientsFrom l) er
-
-  divided : (two : FirstTwo) (r : Coefficients) → two ≡ doublings (red .m) (six .c0) (six .c1) → r ≡ quotientsOf l two → (red .m ≡ 0 → ⊥) → r ≡ coefficientsFrom l (reduced l)
-  divided two r et eq z =
-      eq
-      ∙ ap (quotientsOf l) (et ∙ ap (λ (s : Coefficients). doublings (red .m) (s .c0) (s .c1)) es)
-      ∙ sym (rw (lt-ltb 0 (red .m) (omega (arith, z))))
-      ∙ ap (coefficientsFrom l) er
 
 reduce-requires : tie.Need-reduce-requires
 reduce-requires c κs = search needs
