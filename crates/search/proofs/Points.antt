@@ -34,6 +34,7 @@ neg-fields (suc x) t = by-test (eqb (suc x) 2047)
     special : (b : Bool) → cond b (inf true) nan ≡ neg (cond b (inf false) nan)
     special true = refl
     special false = refl
+
     by-test : (b : Bool) → cond b (cond (eqb t 0) (inf true) nan) (odd 53 true (2 ^ 52 + t) x 1074) ≡ neg (cond b (cond (eqb t 0) (inf false) nan) (odd 53 false (2 ^ 52 + t) x 1074))
     by-test true = special (eqb t 0)
     by-test false = neg-odd 53 (2 ^ 52 + t) x 1074

@@ -1,5 +1,4 @@
 -- The laws of this layer: read Laws.antt and OneAnswers.antt. The others serve their proofs.
 mod Reduction
-mod Parts
 pub mod Laws
 pub mod OneAnswers
