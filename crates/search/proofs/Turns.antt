@@ -22,7 +22,7 @@ use Rattle.search.specs.declared.pair.Next.the-variants as next
 use Rattle.search.specs.declared.pair.Step.the-variants as step
 use Rattle.search.specs.History.{Point, Trials, Proposal, between, exact, unreadable, allShort, History, tries, ends, onward, Outward, on, stop, outwardStep, goingOn, outward, attempt, isWide, halfway, halving, isInside, roundFrom, round, inward, counted, stepped}
 use Rattle.search.specs.Residual.{radiusOf}
-use Rattle.search.specs.Trial.{placeOf}
+use Rattle.search.specs.Trial.{placeOf, trialAt}
 use Rattle.search.specs.Proposals.{hasSign, insideOf, offeredAt, byRadius, byInterval, byEnds, orElse, proposed}
 use Rattle.search.proofs.Counts.{points, used, used-is}
 
@@ -190,7 +190,7 @@ module _ (ev : Trials) where
       halving-turn = rw w (counted-onward n [] (attempt ev s (halfway s)) (λ _. rest (left - 1)) (rest (left - 1)) (λ _ _. refl))
 
       -- A turn: p is what is offered in it, and 0 stands for the halving place.
-      pub turn : (b : Bool) (p : ℕ) → p ≡ pick b (propose s) 0 → Fits s p
+      turn : (b : Bool) (p : ℕ) → p ≡ pick b (propose s) 0 → Fits s p
           → counted n (stage b left s) ≡ after (counted n (attempt ev s (pick (eqb p 0) (halfway s) p))) (stage (eqb p 0) (pick (eqb p 0) (left - 1) left))
       turn b p e f = by-test b e (eqb p 0) refl
         where
@@ -223,7 +223,7 @@ module _ (s : Pair) where
   fits-none : Fits s 0
   fits-none = record { between-ends = λ e. absurd (true≢false e) }
 
-  pub fits-pick : (b : Bool) {p q : ℕ} → Fits s p → Fits s q → Fits s (pick b p q)
+  fits-pick : (b : Bool) {p q : ℕ} → Fits s p → Fits s q → Fits s (pick b p q)
   fits-pick true f g = f
   fits-pick false f g = g
 
@@ -254,9 +254,18 @@ module _ (s : Pair) where
     unfolding byEnds
     ends-fits = fits-pick (eq (s .«past_error» ⊖ s .«short_error») n0) fits-none (offered-fits tau _)
 
-    pub offer-fits : (b : Bool) → Fits s (pick b (proposed i tau s) 0)
+    offer-fits : (b : Bool) → Fits s (pick b (proposed i tau s) 0)
     unfolding proposed
     offer-fits b =
         fits-pick b
         (else-fits (byRadius i tau s) (orElse (byInterval tau s) (byEnds tau s)) radius-fits (else-fits (byInterval tau s) (byEnds tau s) interval-fits ends-fits))
         fits-none
+
+-- A turn of the search as the code takes it: what is left after it is what was left before it.
+pub search-turn : (i : Initial) (tau : Seconds) (left n : ℕ) (s : Pair) → 0 < left → isWide s ≡ true → (b : Bool) {p : ℕ} {x : Next} → p ≡ pick b (proposed i tau s) 0
+    → x ≡ counted n (attempt (trialAt i tau) s (pick (eqb p 0) (halfway s) p))
+    → after x (stage (trialAt i tau) (proposed i tau) (eqb p 0) (pick (eqb p 0) (left - 1) left)) ≡ counted n (stage (trialAt i tau) (proposed i tau) b left s)
+search-turn i tau left n s h w b {p} e g =
+    let f : Fits s p = subst (Fits s) (sym e) (offer-fits s i tau b) in
+    ap (λ (y : Next). after y (stage (trialAt i tau) (proposed i tau) (eqb p 0) (pick (eqb p 0) (left - 1) left))) g
+    ∙ sym (turn (trialAt i tau) (proposed i tau) left n s h w b p e f)

@@ -1,6 +1,6 @@
 -- What is left of the inward history, from this pair and before this turn, ends as all of it does from the first.
-use Prim.Native.Nat.{ℕ, _+_, _-_, _*_, _≤_, _<_}
-use mathlib.Core.Path.{_≡_, refl, sym, ap, _∙_, subst}
+use Prim.Native.Nat.{_+_, _*_, _≤_, _<_}
+use mathlib.Core.Path.{_≡_, refl, sym, _∙_}
 use native.Mathlib.Omega.{arith}
 use borrow.Author.Tests.{not-true, not-false, eq-eqb, ne-eqb}
 use borrow.Author.Needs.{needs}
@@ -8,10 +8,9 @@ use lib.Dec.{eqb}
 use Rattle.bits.specs.Choice.{pick}
 use Rattle.search.specs.Trial.{trialAt}
 use Rattle.search.specs.Proposals.{proposed}
-use Rattle.search.specs.History.{attempt, halfway, pointsIn, counted}
+use Rattle.search.specs.History.{pointsIn, counted}
 use Rattle.search.specs.Search.{inwardAt}
-use Rattle.search.specs.declared.pair.Next.{Next}
-use Rattle.search.proofs.Turns.{Fits, after, handed-on, between-used, stage, stage-narrow, stage-none, turn, may-propose, one-or-none, offer-fits}
+use Rattle.search.proofs.Turns.{handed-on, between-used, stage, stage-narrow, stage-none, may-propose, one-or-none, search-turn}
 use Rattle.search.proofs.inward.Statement.{statement}
 use Rattle.search.proofs.inward.Tie as tie
 
@@ -50,15 +49,9 @@ returns-2 : tie.Need-returns-2 Inv-loop μ-loop
 returns-2 c =
     let l = c .before .before .before .before .before .before .loop in
     let a = c .before .before .before .before .before .before .before .args in
-    let o = c .before .before .offer in
-    let ev = trialAt (a .initial) (a .tau) in
-    let pr = proposed (a .initial) (a .tau) in
-    let p = o .result in
-    let on = stage ev pr (eqb p 0) (pick (eqb p 0) (l .left - 1) (l .left)) in
-    handed-on (c .before .tried .result) on (c .match .keys2)
-    ∙ ap (λ (y : Next). after y on) (c .before .tried .ensures)
-    ∙ sym (turn ev pr (l .left) (l .points) (l .pair) (c .before .before .before .before .before .loop-test .taken) (sym (c .before .before .before .before .is-wide .ensures) ∙ not-false _ (c .before .before .before .if1 .left))
-    (eqb (l .offered) 0) p (o .ensures) (subst (Fits (l .pair)) (sym (o .ensures)) (offer-fits (l .pair) (a .initial) (a .tau) (eqb (l .offered) 0))))
+    let wide = sym (c .before .before .before .before .is-wide .ensures) ∙ not-false _ (c .before .before .before .if1 .left) in
+    handed-on (c .before .tried .result) _ (c .match .keys2)
+    ∙ search-turn (a .initial) (a .tau) (l .left) (l .points) (l .pair) (c .before .before .before .before .before .loop-test .taken) wide (eqb (l .offered) 0) (c .before .before .offer .ensures) (c .before .tried .ensures)
     ∙ l .inv .0
 
 sub-left : tie.Need-sub-left Inv-loop μ-loop
@@ -74,14 +67,11 @@ loop-again c =
     let a = c .before .before .before .before .before .before .before .before .before .before .args in
     let o = c .before .before .before .before .before .offer in
     let t = c .before .before .before .before .tried in
-    let ev = trialAt (a .initial) (a .tau) in
-    let pr = proposed (a .initial) (a .tau) in
     let p = o .result in
     let z = eq-eqb p 0 (c .if2 .taken) in
-    let on = stage ev pr (eqb p 0) (pick (eqb p 0) (l .left - 1) (l .left)) in (
-      rw z (rw z at (ap (λ (y : Next). after y on) (sym (c .before .before .next .given .1) ∙ t .ensures)
-          ∙ sym (turn ev pr (l .left) (l .points) (l .pair) (c .before .before .before .before .before .before .before .before .loop-test .taken) (sym (c .before .before .before .before .before .before .before .is-wide .ensures) ∙ not-false _ (c .before .before .before .before .before .before .if1 .left))
-          (eqb (l .offered) 0) p (o .ensures) (subst (Fits (l .pair)) (sym (o .ensures)) (offer-fits (l .pair) (a .initial) (a .tau) (eqb (l .offered) 0))))
+    let wide = sym (c .before .before .before .before .before .before .before .is-wide .ensures) ∙ not-false _ (c .before .before .before .before .before .before .if1 .left) in (
+      rw z (rw z at (search-turn (a .initial) (a .tau) (l .left) (l .points) (l .pair) (c .before .before .before .before .before .before .before .before .loop-test .taken) wide (eqb (l .offered) 0) (o .ensures)
+          (sym (c .before .before .next .given .1) ∙ t .ensures)
           ∙ l .inv .0)),
       omega (arith, one-or-none (eqb p 0), between-used _ _ _ (t .ensures) (c .before .before .next .given .1)),
       rw z (omega arith),
@@ -100,14 +90,11 @@ loop-again-2 c =
     let a = c .before .before .before .before .before .before .before .before .before .before .args in
     let o = c .before .before .before .before .before .offer in
     let t = c .before .before .before .before .tried in
-    let ev = trialAt (a .initial) (a .tau) in
-    let pr = proposed (a .initial) (a .tau) in
     let p = o .result in
     let z = ne-eqb p 0 (c .if2 .left) in
-    let on = stage ev pr (eqb p 0) (pick (eqb p 0) (l .left - 1) (l .left)) in (
-      rw z (rw z at (ap (λ (y : Next). after y on) (sym (c .before .before .next .given .1) ∙ t .ensures)
-          ∙ sym (turn ev pr (l .left) (l .points) (l .pair) (c .before .before .before .before .before .before .before .before .loop-test .taken) (sym (c .before .before .before .before .before .before .before .is-wide .ensures) ∙ not-false _ (c .before .before .before .before .before .before .if1 .left))
-          (eqb (l .offered) 0) p (o .ensures) (subst (Fits (l .pair)) (sym (o .ensures)) (offer-fits (l .pair) (a .initial) (a .tau) (eqb (l .offered) 0))))
+    let wide = sym (c .before .before .before .before .before .before .before .is-wide .ensures) ∙ not-false _ (c .before .before .before .before .before .before .if1 .left) in (
+      rw z (rw z at (search-turn (a .initial) (a .tau) (l .left) (l .points) (l .pair) (c .before .before .before .before .before .before .before .before .loop-test .taken) wide (eqb (l .offered) 0) (o .ensures)
+          (sym (c .before .before .next .given .1) ∙ t .ensures)
           ∙ l .inv .0)),
       rw z (omega (arith, rw (may-propose (eqb (l .offered) 0) _ (o .ensures) (c .if2 .left)) at (l .inv .1), between-used _ _ _ (t .ensures) (c .before .before .next .given .1))),
       rw z (omega (arith, c .before .before .before .before .before .before .before .before .loop-test .taken)),

@@ -1,9 +1,4 @@
 -- The pair moved by what is tried. The place is above 0: the offered one isn't 0, and the halving place of a wide pair lies above its short end.
-use Prim.Native.Nat.{_-_, _<_}
-use mathlib.Core.Path.{_≡_}
-use mathlib.Core.Bool.{Bool, true, false}
-use native.Mathlib.Omega.{arith}
-use borrow.Author.Tests.{ltb-true, eqb-false}
 use borrow.Author.Needs.{needs}
 use Rattle.search.specs.History.{counted}
 use Rattle.search.proofs.Turns.{place-above}
