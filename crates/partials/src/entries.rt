@@ -67,16 +67,20 @@ fn entry(arc: Arc, a: Matrix, row: usize, column: usize) -> f64
     minus(factors.gprime, unit, a.a12, a.a13, a.a22, a.a23, p, w, q, u)
 }
 
-// The 36 partials, row by row.
+// The 36 partials, row by row. The columns have their own loop, so that the compiler can write a row's six out: which formula an entry has is then known.
 pub fn entries(arc: Arc) -> [f64; 36]
     ensures { λ r. ⌜ r ≡ entriesOf arc ⌝ }
 {
     let a = matrix_of(arc, u_of(arc));
     let mut table = [0.0; 36];
-    let mut k = 0usize;
-    while k < 36 {
-        table[k] = entry(arc, a, k / 6, k % 6);
-        k += 1;
+    let mut row = 0usize;
+    while row < 6 {
+        let mut column = 0usize;
+        while column < 6 {
+            table[6 * row + column] = entry(arc, a, row, column);
+            column += 1;
+        }
+        row += 1;
     }
     table
 }

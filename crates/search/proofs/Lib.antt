@@ -6,5 +6,6 @@ pub mod Reach
 pub mod Refusals
 pub mod Instance
 pub mod Cases
+pub mod Points
 pub mod Turns
 pub mod OneAnswers

@@ -1,22 +1,34 @@
 -- What the code's loops cite: a turn of the history at a time. The three proposals look at the pair alone, so what is left of the history does not depend on
 -- the points tried before, nor on the round's number.
 use Prim.Native.Nat.{ℕ, zero, suc, _+_, _-_, _^_, _≤_, _<_}
-use mathlib.Core.Path.{_≡_, refl, ap, sym, _∙_}
-use mathlib.Core.Bool.{true, false}
+use mathlib.Core.Path.{_≡_, refl, ap, sym, _∙_, subst}
+use mathlib.Core.Bool.{Bool, true, false, true≢false}
 use mathlib.Core.List.{List, [], _∷_, _++_}
 use mathlib.Core.Logic.{⊎-elim}
 use native.Mathlib.Omega.{arith}
-use lib.Ieee.{Float}
+use lib.Dec.{eqb}
+use lib.Ieee.{Float, eq}
+use borrow.Author.Tests.{ltb-true, le-ltb, eqb-true, eqb-false}
 use types.Run.{OneOf}
 use denote.Enum.Declared.{tagOf}
 use Rattle.bits.specs.Choice.{pick}
+use Rattle.bits.specs.Arithmetic.{_⊖_, n0, isFinite}
+use Rattle.series.specs.declared.figures.Seconds.{Seconds}
+use Rattle.search.specs.declared.figures.Initial.{Initial}
 use Rattle.search.proofs.pair.Next.{the-type}
 use Rattle.search.specs.declared.pair.Pair.{Pair}
 use Rattle.search.specs.declared.pair.Next.{Next}
 use Rattle.search.specs.declared.pair.Next.the-variants as next
 use Rattle.search.specs.declared.pair.Step.the-variants as step
-use Rattle.search.specs.History.{Point, Trials, Proposal, between, exact, unreadable, allShort, History, tries, ends, onward, Outward, on, stop, outwardStep, goingOn, outward, attempt, isWide, isInside, halving, round, inward, counted, stepped}
+use Rattle.search.specs.History.{Point, Trials, Proposal, between, exact, unreadable, allShort, History, tries, ends, onward, Outward, on, stop, outwardStep, goingOn, outward, attempt, isWide, halfway, halving, isInside, roundFrom, round, inward, counted, stepped}
+use Rattle.search.specs.Residual.{radiusOf}
+use Rattle.search.specs.Trial.{placeOf, trialAt}
+use Rattle.search.specs.Proposals.{hasSign, insideOf, offeredAt, byRadius, byInterval, byEnds, orElse, proposed}
 use Rattle.search.proofs.Counts.{points, used, used-is}
+
+-- A place that is proposed lies strictly between, and 0 is none.
+pub record Fits (s : Pair) (p : ℕ) : Type 0 where
+  pub between-ends : eqb p 0 ≡ false → isInside s p ≡ true
 
 -- After a part as the code keeps it: the next part, where it ended with a pair.
 abbrev pub after : Next → (Pair → History) → Next
@@ -134,3 +146,126 @@ module _ (ev : Trials) where
     unfolding inward counted
     inward-none zero n s h = refl
     inward-none (suc left) n s h = absurd (omega arith)
+
+    -- ---- a point at a time: before a proposal, or before the halving place that follows a proposed point
+    abbrev pub stage : (proposing : Bool) (left : ℕ) → Pair → History
+    stage true left s = rest left s
+    stage false left s = onward [] (halving ev s) (λ _. rest (left - 1))
+
+    pub stage-narrow : (b : Bool) (left n : ℕ) (s : Pair) → isWide s ≡ false → next.Between s n ≡ counted n (stage b left s)
+    unfolding halving onward
+    stage-narrow true left n s w = inward-narrow left n s w
+    stage-narrow false left n s w = rw w (inward-narrow (left - 1) n s w)
+
+    -- No round is left only before a proposal: the halving place ends its round.
+    pub stage-none : (b : Bool) (left n : ℕ) (s : Pair) → left ≤ 0 → 0 < left + pick b 1 0 → next.Between s n ≡ counted n (stage b left s)
+    stage-none true left n s h g = inward-none left n s h
+    stage-none false left n s h g = absurd (omega arith)
+
+    after-after : (x : Next) (f g : Pair → History) → after (after x f) g ≡ after x (λ s. onward [] (f s) (λ _. g))
+    after-after (next.Between s n) f g = sym (counted-onward n [] (f s) (λ _. g) g (λ _ _. refl))
+    after-after (next.Exact p n) f g = refl
+    after-after (next.Unreadable n) f g = refl
+    after-after (next.AllShort n) f g = refl
+
+    module _ (left n : ℕ) (s : Pair) (h : 0 < left) (w : isWide s ≡ true) where
+      -- Without a proposal a round is its halving place.
+      unproposed : propose s ≡ 0 → counted n (rest left s) ≡ after (counted n (attempt ev s (halfway s))) (rest (left - 1))
+      unfolding round halving
+      unproposed e =
+          inward-turn left n s h w
+          ∙ ap (λ (p : ℕ). after (counted n (roundFrom ev [] s p)) (rest (left - 1))) e
+          ∙ simp (le-ltb (s .short) 0 (omega arith), w)
+
+      -- A proposal strictly between is tried, and then the halving place.
+      proposing-turn : isInside s (propose s) ≡ true → counted n (rest left s) ≡ after (counted n (attempt ev s (propose s))) (stage false left)
+      unfolding round
+      proposing-turn i =
+          inward-turn left n s h w
+          ∙ rw i (ap (λ (y : Next). after y (rest (left - 1))) (counted-onward n [] (attempt ev s (propose s)) (λ _. halving ev) (halving ev) (λ _ _. refl)))
+          ∙ after-after (counted n (attempt ev s (propose s))) (halving ev) (rest (left - 1))
+
+      halving-turn : counted n (stage false left s) ≡ after (counted n (attempt ev s (halfway s))) (rest (left - 1))
+      unfolding halving
+      halving-turn = rw w (counted-onward n [] (attempt ev s (halfway s)) (λ _. rest (left - 1)) (rest (left - 1)) (λ _ _. refl))
+
+      -- A turn: p is what is offered in it, and 0 stands for the halving place.
+      turn : (b : Bool) (p : ℕ) → p ≡ pick b (propose s) 0 → Fits s p
+          → counted n (stage b left s) ≡ after (counted n (attempt ev s (pick (eqb p 0) (halfway s) p))) (stage (eqb p 0) (pick (eqb p 0) (left - 1) left))
+      turn b p e f = by-test b e (eqb p 0) refl
+        where
+          by-test : (b : Bool) → p ≡ pick b (propose s) 0 → (t : Bool) → eqb p 0 ≡ t
+              → counted n (stage b left s) ≡ after (counted n (attempt ev s (pick t (halfway s) p))) (stage t (pick t (left - 1) left))
+          by-test true e true z = unproposed (sym e ∙ eqb-true p 0 z)
+          by-test true e false z = proposing-turn (subst (λ (q : ℕ). isInside s q ≡ true) e (f .between-ends z)) ∙ ap (λ (q : ℕ). after (counted n (attempt ev s q)) (stage false left)) (sym e)
+          by-test false e true z = halving-turn
+          by-test false e false z = absurd (eqb-false p 0 z e)
+
+-- The place of a turn is above 0.
+pub place-above : (s : Pair) (p : ℕ) → isWide s ≡ true → 0 < pick (eqb p 0) (halfway s) p
+place-above s p w = by-test (eqb p 0) refl
+  where
+    by-test : (b : Bool) → eqb p 0 ≡ b → 0 < pick b (halfway s) p
+    by-test true e = omega (arith, ltb-true 1 (s .past - s .short) w)
+    by-test false e = let z = eqb-false p 0 e in omega (arith, z)
+
+-- Only a turn that may propose offers a place.
+pub may-propose : (b : Bool) {p : ℕ} (q : ℕ) → p ≡ pick b q 0 → (p ≡ 0 → ⊥) → b ≡ true
+may-propose true q e h = refl
+may-propose false q e h = absurd (h e)
+
+pub one-or-none : (b : Bool) → pick b 1 0 ≤ 1
+one-or-none true = omega arith
+one-or-none false = omega arith
+
+-- ---- The three proposals: each is 0 or strictly between.
+module _ (s : Pair) where
+  fits-none : Fits s 0
+  fits-none = record { between-ends = λ e. absurd (true≢false e) }
+
+  fits-pick : (b : Bool) {p q : ℕ} → Fits s p → Fits s q → Fits s (pick b p q)
+  fits-pick true f g = f
+  fits-pick false f g = g
+
+  inside-fits : (place : ℕ) → Fits s (insideOf s place)
+  inside-fits place = by-test (isInside s place) refl
+    where
+      by-test : (b : Bool) → isInside s place ≡ b → Fits s (pick b place 0)
+      by-test true e = record { between-ends = λ _. e }
+      by-test false e = fits-none
+
+  offered-fits : (tau : Seconds) (x : Float) → Fits s (offeredAt tau s x)
+  unfolding offeredAt
+  offered-fits tau x = fits-pick (isFinite x) (fits-pick (hasSign tau x) (inside-fits (placeOf x)) fits-none) fits-none
+
+  else-fits : (p q : ℕ) → Fits s p → Fits s q → Fits s (orElse p q)
+  else-fits p q f g = fits-pick (eqb p 0) g f
+
+  module _ (i : Initial) (tau : Seconds) where
+    radius-fits : Fits s (byRadius i tau s)
+    unfolding byRadius
+    radius-fits = fits-pick (eq (radiusOf i (s .c0) (s .s1) (s .s2)) n0) fits-none (offered-fits tau _)
+
+    interval-fits : Fits s (byInterval tau s)
+    unfolding byInterval
+    interval-fits = fits-pick (eq (tau .0) n0) fits-none (offered-fits tau _)
+
+    ends-fits : Fits s (byEnds tau s)
+    unfolding byEnds
+    ends-fits = fits-pick (eq (s .«past_error» ⊖ s .«short_error») n0) fits-none (offered-fits tau _)
+
+    offer-fits : (b : Bool) → Fits s (pick b (proposed i tau s) 0)
+    unfolding proposed
+    offer-fits b =
+        fits-pick b
+        (else-fits (byRadius i tau s) (orElse (byInterval tau s) (byEnds tau s)) radius-fits (else-fits (byInterval tau s) (byEnds tau s) interval-fits ends-fits))
+        fits-none
+
+-- A turn of the search as the code takes it: what is left after it is what was left before it.
+pub search-turn : (i : Initial) (tau : Seconds) (left n : ℕ) (s : Pair) → 0 < left → isWide s ≡ true → (b : Bool) {p : ℕ} {x : Next} → p ≡ pick b (proposed i tau s) 0
+    → x ≡ counted n (attempt (trialAt i tau) s (pick (eqb p 0) (halfway s) p))
+    → after x (stage (trialAt i tau) (proposed i tau) (eqb p 0) (pick (eqb p 0) (left - 1) left)) ≡ counted n (stage (trialAt i tau) (proposed i tau) b left s)
+search-turn i tau left n s h w b {p} e g =
+    let f : Fits s p = subst (Fits s) (sym e) (offer-fits s i tau b) in
+    ap (λ (y : Next). after y (stage (trialAt i tau) (proposed i tau) (eqb p 0) (pick (eqb p 0) (left - 1) left))) g
+    ∙ sym (turn (trialAt i tau) (proposed i tau) left n s h w b p e f)

@@ -17,8 +17,8 @@ pub mod figures;
 mod pair;
 mod proposal;
 pub mod residual;
-mod round;
 mod trial;
+mod turn;
 
 // The anomaly of the interval tau, with the trial points used, searched outward from the place of |h|, H of document 01.
 pub fn search(initial: Initial, tau: Seconds, h: f64) -> Answer
@@ -85,7 +85,7 @@ fn outward_step(
     )
 }
 
-// Inward: rounds while the two places differ by more than 1.
+// Inward: one point a turn, while the two places differ by more than 1. A proposed point is followed by the halving place, which ends the round.
 fn inward(initial: Initial, tau: Seconds, start: Pair, used: u64) -> Next
     requires { ⌜ used < 100 ⌝ }
     ensures { λ r. ⌜ r ≡ counted used (inwardAt initial tau 63 start) ⌝ }
@@ -93,11 +93,13 @@ fn inward(initial: Initial, tau: Seconds, start: Pair, used: u64) -> Next
     let mut pair = start;
     let mut points = used;
     let mut left: u64 = 63;
+    let mut offered: u64 = 0;
     while 0 < left {
         if !pair::is_wide(pair) {
             return Next::Between(pair, points);
         }
-        let next = round::round(initial, tau, pair, points);
+        offered = turn::offer(initial, tau, pair, offered);
+        let next = turn::tried(initial, tau, pair, offered, points);
         match next {
             Next::Between(closer, used) => {
                 pair = closer;
@@ -107,7 +109,9 @@ fn inward(initial: Initial, tau: Seconds, start: Pair, used: u64) -> Next
                 return next;
             }
         }
-        left -= 1;
+        if offered == 0 {
+            left -= 1;
+        }
     }
     Next::Between(pair, points)
 }

@@ -1,5 +1,11 @@
 // One trial point: a place, its anomaly, and its sort.
 ghost use mathlib.Core.Path.{_≡_};
+ghost use Prim.Native.Nat.{_<_, _^_};
+ghost use lib.Ieee.{lt, eq};
+ghost use Rattle.bits.specs.Choice.{pick};
+ghost use Rattle.bits.specs.Arithmetic.{n0};
+ghost use Rattle.search.specs.declared.figures.Sort.the-variants.{Exact, Unreadable};
+ghost use Rattle.search.specs.Residual.{timeErrorOf};
 ghost use Rattle.search.specs.Trial.{placeOf, anomalyAt, sortOf, unevaluated, evaluatedAt, trialAt};
 use super::figures::Initial;
 use super::figures::Sort;
@@ -7,6 +13,7 @@ use super::residual;
 use bits::words::SIGN;
 use series::Anomaly;
 use series::Seconds;
+use series::Sums;
 
 // The first place that is no finite double's: 2047 * 2^52.
 pub const NOT_FINITE: u64 = 0x7ff0_0000_0000_0000;
@@ -26,6 +33,13 @@ pub fn place_of(x: f64) -> u64
     bits::words::word_of(x) % SIGN
 }
 
+// What the sign of tau adds to a word.
+fn sign_of(tau: Seconds) -> u64
+    ensures { λ r. ⌜ r ≡ pick (lt (tau .0) n0) (2 ^ 63) 0 ⌝ }
+{
+    if tau.0 < 0.0 { SIGN } else { 0 }
+}
+
 // The anomaly at a place: it has the sign of tau.
 pub fn anomaly_at(tau: Seconds, place: u64) -> Anomaly
     ensures { λ r. ⌜ r ≡ anomalyAt tau place ⌝ }
@@ -33,30 +47,39 @@ pub fn anomaly_at(tau: Seconds, place: u64) -> Anomaly
     if NOT_FINITE <= place {
         return Anomaly(0.0 / 0.0);
     }
-    let x = f64::from_bits(place);
-    if tau.0 < 0.0 { Anomaly(-x) } else { Anomaly(x) }
+    Anomaly(f64::from_bits(place + sign_of(tau)))
 }
 
-// The sort of a readable place's point by its time error.
+// The sort of a readable place's point by its time error. Nearly every point is short or past, so that is tested first; the error of the others has no sign.
 fn sort_of(tau: Seconds, error: f64) -> Sort
     ensures { λ r. ⌜ r ≡ sortOf tau error ⌝ }
 {
-    if error != error {
-        return Sort::Unreadable;
-    }
-    if error == 0.0 {
-        return Sort::Exact;
-    }
     if tau.0 < 0.0 {
         if error > 0.0 {
             return Sort::Short(error);
         }
-        return Sort::Past(error);
+        if error < 0.0 {
+            return Sort::Past(error);
+        }
+        return sort_without_sign(error);
     }
     if error < 0.0 {
         return Sort::Short(error);
     }
-    Sort::Past(error)
+    if error > 0.0 {
+        return Sort::Past(error);
+    }
+    sort_without_sign(error)
+}
+
+// The sort of a time error that is neither above nor below zero: a zero, or else a NaN.
+fn sort_without_sign(error: f64) -> Sort
+    ensures { λ r. ⌜ r ≡ pick (eq error n0) Exact Unreadable ⌝ }
+{
+    if error == 0.0 {
+        return Sort::Exact;
+    }
+    Sort::Unreadable
 }
 
 // A point that is sorted without an evaluation. Nothing asks for the radius there.
@@ -71,20 +94,25 @@ fn unevaluated_as(sort: Sort) -> Trial
     }
 }
 
-// The point of an anomaly, evaluated where L is finite.
+// The point whose c0 and sums are given.
+fn point_of(initial: Initial, tau: Seconds, c0: f64, s: Sums) -> Trial
+    ensures { λ r. ⌜ r ≡ record { sort = sortOf tau (timeErrorOf initial tau s); c0 = c0; s1 = s .s1; s2 = s .s2 } ⌝ }
+{
+    Trial {
+        sort: sort_of(tau, residual::time_error(initial, tau, s)),
+        c0,
+        s1: s.s1,
+        s2: s.s2,
+    }
+}
+
+// The point of an anomaly, evaluated where L is finite: it isn't where psi isn't.
 fn evaluated(initial: Initial, tau: Seconds, psi: Anomaly) -> Trial
     ensures { λ r. ⌜ r ≡ evaluatedAt initial tau psi ⌝ }
 {
     if bits::words::is_finite(initial.alpha * (psi.0 * psi.0)) {
         let c = series::coefficients(initial.alpha, psi);
-        let s = series::sums(psi, c);
-        let error = residual::time_error(initial, tau, s);
-        return Trial {
-            sort: sort_of(tau, error),
-            c0: c.c0,
-            s1: s.s1,
-            s2: s.s2,
-        };
+        return point_of(initial, tau, c.c0, series::sums(psi, c));
     }
     unevaluated_as(Sort::Unreadable)
 }
@@ -96,8 +124,18 @@ pub fn try_at(initial: Initial, tau: Seconds, place: u64) -> Trial
     if place == 0 {
         return unevaluated_as(Sort::Short(-tau.0));
     }
-    if NOT_FINITE <= place {
-        return unevaluated_as(Sort::Unreadable);
-    }
     evaluated(initial, tau, anomaly_at(tau, place))
+}
+
+// The same of a place above 0, for the inward turns, which try most of the points: `first_sums` has no other caller, so the compiler writes it into their loop.
+pub fn try_inner(initial: Initial, tau: Seconds, place: u64) -> Trial
+    requires { ⌜ 0 < place ⌝ }
+    ensures { λ r. ⌜ r ≡ trialAt initial tau place ⌝ }
+{
+    let psi = anomaly_at(tau, place);
+    if bits::words::is_finite(initial.alpha * (psi.0 * psi.0)) {
+        let first = series::first_sums(initial.alpha, psi);
+        return point_of(initial, tau, first.c0, first.sums);
+    }
+    unevaluated_as(Sort::Unreadable)
 }

@@ -22,3 +22,9 @@ pub struct Sums {
     pub s2: f64,
     pub s3: f64,
 }
+
+// c0 and the sums of an anomaly: what a trial point needs.
+pub struct FirstSums {
+    pub c0: f64,
+    pub sums: Sums,
+}

@@ -1,12 +1,15 @@
 // Layer 2: the coefficients and sums of an anomaly (document 01, "Initial figures and series").
 // alpha is in km^2/s^2 and psi in s/km, so L and c0 to c5 are plain numbers.
 ghost use mathlib.Core.Path.{_≡_};
-ghost use Rattle.series.specs.Series.{beyondOne, reduced, c4Of, c5Of, atReduced, doublings, quotientsOf, coefficientsOf, sumsOf};
+ghost use lib.Dec.{ltb};
+ghost use Rattle.bits.specs.Choice.{pick};
+ghost use Rattle.series.specs.Series.{firstL, beyondOne, reduced, c4Of, c5Of, atReduced, doublings, quotientsOf, coefficientsOf, sumsOf};
 
 pub mod figures;
 
 pub use figures::Anomaly;
 pub use figures::Coefficients;
+pub use figures::FirstSums;
 pub use figures::Seconds;
 pub use figures::Sums;
 
@@ -26,13 +29,22 @@ struct FirstTwo {
 pub fn coefficients(alpha: f64, psi: Anomaly) -> Coefficients
     ensures { λ r. ⌜ r ≡ coefficientsOf alpha psi ⌝ }
 {
-    let l = alpha * (psi.0 * psi.0);
+    let l = first_l(alpha, psi);
     let reduced = reduce(l);
-    let six = at_reduced(reduced.l);
-    if reduced.m == 0 {
-        return six;
+    restored(l, reduced.m, at_reduced(reduced.l))
+}
+
+// c0 and the sums of the anomaly psi: all that a trial point asks for. A call of its own, so that it can be compiled into the search's loop and without c4 and c5.
+pub fn first_sums(alpha: f64, psi: Anomaly) -> FirstSums
+    ensures { λ r. ⌜ r ≡ record { c0 = coefficientsOf alpha psi .c0; sums = sumsOf psi (coefficientsOf alpha psi) } ⌝ }
+{
+    let l = first_l(alpha, psi);
+    let reduced = reduce(l);
+    let c = restored(l, reduced.m, at_reduced(reduced.l));
+    FirstSums {
+        c0: c.c0,
+        sums: sums(psi, c),
     }
-    quotients(l, double(reduced.m, six.c0, six.c1))
 }
 
 // s1, s2 and s3 of the anomaly psi whose coefficients are c.
@@ -45,6 +57,13 @@ pub fn sums(psi: Anomaly, c: Coefficients) -> Sums
         s2: square * c.c2,
         s3: (square * psi.0) * c.c3,
     }
+}
+
+// L, before its divisions.
+fn first_l(alpha: f64, psi: Anomaly) -> f64
+    ensures { λ r. ⌜ r ≡ firstL alpha psi ⌝ }
+{
+    alpha * (psi.0 * psi.0)
 }
 
 // Whether |l| > 1; of a NaN it is not so.
@@ -121,6 +140,16 @@ fn at_reduced(l: f64) -> Coefficients
         c4,
         c5,
     }
+}
+
+// All six of the first L, from those at L after m divisions.
+fn restored(l: f64, m: u64, six: Coefficients) -> Coefficients
+    ensures { λ r. ⌜ r ≡ pick (ltb 0 m) (quotientsOf l (doublings m (six .c0) (six .c1))) six ⌝ }
+{
+    if m == 0 {
+        return six;
+    }
+    quotients(l, double(m, six.c0, six.c1))
 }
 
 // c0 and c1 after m doublings. c1 goes first: it takes the old c0.

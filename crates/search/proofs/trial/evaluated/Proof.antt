@@ -14,15 +14,12 @@ coefficients-requires c κs = search needs
 sums-requires : tie.Need-sums-requires
 sums-requires c κs = search needs
 
-time-error-requires : tie.Need-time-error-requires
-time-error-requires c κs = search needs
-
-sort-of-requires : tie.Need-sort-of-requires
-sort-of-requires c κs = search needs
+point-of-requires : tie.Need-point-of-requires
+point-of-requires c κs = search needs
 
 returns : tie.Need-returns
 unfolding evaluatedAt
-returns c = simp (sym (c .before .before .before .before .before .is-finite .ensures) ∙ c .before .before .before .before .if1 .taken, c .sort-of .ensures, c .before .time-error .ensures, c .before .before .sums .ensures, c .before .before .before .coefficients .ensures)
+returns c = simp (sym (c .before .before .before .before .is-finite .ensures) ∙ c .before .before .before .if1 .taken) (simp (c .before .sums .ensures, c .before .before .coefficients .ensures) at (c .point-of .ensures))
 
 unevaluated-as-requires : tie.Need-unevaluated-as-requires
 unevaluated-as-requires c κs = search needs
@@ -38,8 +35,7 @@ evaluated-spec =
     is-finite-requires
     coefficients-requires
     sums-requires
-    time-error-requires
-    sort-of-requires
+    point-of-requires
     returns
     unevaluated-as-requires
     returns-2)

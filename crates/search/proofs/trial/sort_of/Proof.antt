@@ -1,40 +1,43 @@
--- The tests are those of the definition, in its order.
-use mathlib.Core.Path.{_≡_}
-use mathlib.Core.Bool.{true}
-use lib.Ieee.{Float, ne}
-use Rattle.series.specs.declared.figures.Seconds.{Seconds}
-use Rattle.search.specs.declared.figures.Sort.the-variants.{Unreadable}
-use Rattle.search.specs.Trial.{sortOf}
+-- The two signs first, then what has none.
+use mathlib.Core.Path.{_∙_}
+use borrow.Author.Needs.{needs}
+use Rattle.search.proofs.Points.{short-back, past-back, short-on, past-on, unsigned}
 use Rattle.search.proofs.trial.sort_of.Statement.{statement}
 use Rattle.search.proofs.trial.sort_of.Tie as tie
 
--- Only a NaN differs from itself: an infinite R counts by its sign.
-unreadable : (tau : Seconds) (error : Float) → ne error error ≡ true → Unreadable ≡ sortOf tau error
-unfolding sortOf
-unreadable tau error h = simp h
-
 returns : tie.Need-returns
-returns c = unreadable (c .before .args .tau) (c .before .args .error) (c .if1 .taken)
+returns c = let a = c .before .before .before .args in short-back (a .tau) (a .error) (c .before .if1 .taken) (c .if2 .taken)
 
 returns-2 : tie.Need-returns-2
-unfolding sortOf
-returns-2 c = simp (c .before .if1 .left, c .if2 .taken)
+returns-2 c = let a = c .before .before .before .before .args in past-back (a .tau) (a .error) (c .before .before .if1 .taken) (c .before .if2 .left) (c .if3 .taken)
+
+sort-without-sign-requires : tie.Need-sort-without-sign-requires
+sort-without-sign-requires c κs = search needs
 
 returns-3 : tie.Need-returns-3
-unfolding sortOf
-returns-3 c = simp (c .before .before .before .before .if1 .left, c .before .before .before .if2 .left, c .before .if3 .taken, c .if4 .taken)
+returns-3 c = let a = c .before .before .before .before .before .args in c .sort-without-sign .ensures ∙ unsigned (a .tau) (a .error) (c .before .before .if2 .left) (c .before .if3 .left)
 
 returns-4 : tie.Need-returns-4
-unfolding sortOf
-returns-4 c = simp (c .before .before .before .before .if1 .left, c .before .before .before .if2 .left, c .before .if3 .taken, c .if4 .left)
+returns-4 c = let a = c .before .before .before .args in short-on (a .tau) (a .error) (c .before .if1 .left) (c .if4 .taken)
 
 returns-5 : tie.Need-returns-5
-unfolding sortOf
-returns-5 c = simp (c .before .before .before .before .if1 .left, c .before .before .before .if2 .left, c .before .if3 .left, c .if5 .taken)
+returns-5 c = let a = c .before .before .before .before .args in past-on (a .tau) (a .error) (c .before .before .if1 .left) (c .before .if4 .left) (c .if5 .taken)
+
+sort-without-sign-requires-2 : tie.Need-sort-without-sign-requires-2
+sort-without-sign-requires-2 c κs = search needs
 
 returns-6 : tie.Need-returns-6
-unfolding sortOf
-returns-6 c = simp (c .before .before .before .before .if1 .left, c .before .before .before .if2 .left, c .before .if3 .left, c .if5 .left)
+returns-6 c = let a = c .before .before .before .before .before .args in c .sort-without-sign2 .ensures ∙ unsigned (a .tau) (a .error) (c .before .if5 .left) (c .before .before .if4 .left)
 
 pub sort-of-spec : {M : Type 1} → statement M
-sort-of-spec = tie.close (tie.spec returns returns-2 returns-3 returns-4 returns-5 returns-6)
+sort-of-spec =
+    tie.close
+    (tie.spec
+    returns
+    returns-2
+    sort-without-sign-requires
+    returns-3
+    returns-4
+    returns-5
+    sort-without-sign-requires-2
+    returns-6)

@@ -1,0 +1,10 @@
+-- The code is the definition written out.
+use mathlib.Core.Path.{refl}
+use Rattle.series.proofs.first_l.Statement.{statement}
+use Rattle.series.proofs.first_l.Tie as tie
+
+returns : tie.Need-returns
+returns c = refl
+
+pub first-l-spec : {M : Type 1} → statement M
+first-l-spec = tie.close (tie.spec returns)
