@@ -1,8 +1,10 @@
-# make run      a state of an orbit through the C library: make run STATE='MU X Y Z VX VY VZ TAU'
+# make run      the program on an element file, and its results in a table: make run ELEMENTS=FILE
+# make state    one state of an orbit through the C library: make state STATE='MU X Y Z VX VY VZ TAU'
 # make check    all that must hold; ends in rt ci, whose last line is 'N passed, 0 failed'
 # make test     the C tests alone
 # make fuzz     the library against the second program, as long as told: make fuzz N=1000000 SEED=7
 # make bench    instructions per call (and time on x86-64) beside plain C of the same rules: see bench/README.md
+# make program  build/propagate, the program, for x86-64, proved
 # make lib      build/libkelubashi.a, for x86-64, from proved crates only
 # make clean    remove build/ and rt's target/
 
@@ -25,15 +27,22 @@ BESIDE = bench/plain.c bench/plain_root.c bench/plain_search.c bench/newton.c be
 
 # One step at a time, in the order written: what is cheap to find wrong comes before what takes minutes.
 .NOTPARALLEL:
-.PHONY: run check test fuzz bench lib clean kit layout machine header edition readme
+.PHONY: run state check test fuzz bench program lib clean kit layout machine header edition readme tried
 
-run: build/host/propagate
+# What make run shows.
+ELEMENTS = examples/orbits.elements
+
+run: program build/host/show
+	@$(X86) run build/propagate $(ELEMENTS) >build/results
+	@$(X86) run build/host/show $(ELEMENTS) build/results
+
+state: build/host/propagate
 	@$(X86) run $< $(STATE)
 
 check: layout test
 	@rt ci
 
-test: machine header edition readme build/host/propagate $(TESTS)
+test: machine header edition readme build/host/propagate tried $(TESTS)
 	@for test in $(TESTS); do $(X86) run "$$test" || exit 1; done
 
 fuzz: machine $(FUZZ)
@@ -50,6 +59,13 @@ lib: kit
 	@echo 'library: rt proves what target/ does not have yet, then build/libkelubashi.a is written'
 	@rt staticlib kelubashi >build/library.log 2>&1 || { cut -c 1-1500 build/library.log; exit 1; }
 	@cp target/staticlib/libkelubashi.a build/
+
+# As for the library: rt alone knows what is proved, and a copy stays in build/.
+program: kit
+	@mkdir -p build
+	@echo 'program: rt proves what target/ does not have yet, then build/propagate is written'
+	@rt check propagate >build/program.log 2>&1 || { cut -c 1-1500 build/program.log; exit 1; }
+	@cp target/bin/propagate build/
 
 clean:
 	rm -rf build target
@@ -72,6 +88,9 @@ edition: machine lib
 readme: machine lib
 	@sh tests/readme.sh
 
+tried: machine program build/host/elements build/host/show build/tests/second_results
+	@sh tests/program.sh
+
 SECOND = $(patsubst %,build/tests/second/%.o,root series search states files)
 SELFTEST = $(patsubst %,build/tests/second/selftest%.o,_root _calls _orbits _files)
 HEADERS = include/kelubashi.h $(wildcard tests/*.h tests/second/*.h)
@@ -79,6 +98,11 @@ HEADERS = include/kelubashi.h $(wildcard tests/*.h tests/second/*.h)
 build/tests/case_files: build/tests/expected.o
 build/tests/propagate: $(patsubst %,build/tests/%.o,drive orbits aimed aimed_search inputs aims) $(SECOND)
 build/tests/files: $(patsubst %,build/tests/%.o,drive orbits sections damaged lent) $(SECOND)
+
+# These read and write words alone, with the header and without the library.
+build/host/show build/host/elements: build/host/%: host/%.c include/kelubashi.h | machine
+	@mkdir -p $(@D)
+	@$(X86) compile $(STRICT) -Iinclude -o $@ $<
 
 build/%: %.c $(HEADERS) machine lib
 	@mkdir -p $(@D)
@@ -88,8 +112,11 @@ build/bench/%: bench/row_%.c $(BESIDE) $(wildcard bench/*.h) include/kelubashi.h
 	@mkdir -p $(@D)
 	@$(X86) compile $(STRICT) -Iinclude -o $@ $< $(BESIDE) build/libkelubashi.a -lm
 
-# The second program knows nothing of the library, and its self-test links without it.
+# The second program knows nothing of the library, and what asks it alone links without it.
 build/tests/second/selftest: build/tests/second/selftest.o $(SELFTEST) $(SECOND) | machine
+	@$(X86) compile $(STRICT) -o $@ $^ -lm
+
+build/tests/second_results: build/tests/second_results.o $(SECOND) | machine
 	@$(X86) compile $(STRICT) -o $@ $^ -lm
 
 build/%.o: %.c $(HEADERS) | machine

@@ -1,0 +1,32 @@
+-- How long a result file can be: 16 bytes, and 88 for each of 1,500 requests. So a room of that length takes every one.
+use Prim.Native.Nat.{ℕ, _+_, _≤_}
+use native.Mathlib.Omega.{arith}
+use mathlib.Core.Path.{_≡_, refl, ap, _∙_}
+use mathlib.Core.List.{List, [], _∷_}
+use lib.ListN.{length, take, drop}
+use lib.Seq.{take-append-seam}
+use Rattle.io.specs.Counts.{Counts}
+use Rattle.io.proofs.Counting.{counts}
+use Rattle.runs.specs.Words.{written, put}
+use Rattle.runs.proofs.WordLaws.{length-written}
+use Rattle.runs.proofs.PutLaws.{put-fits, length-put}
+use Rattle.files.specs.Reader.{readingOf}
+use Rattle.files.specs.declared.reader.Reading.{Reading}
+use Rattle.files.specs.declared.reader.Reading.the-variants.{Sections, Refused}
+use Rattle.results.specs.Results.{resultBy, resultFile}
+use Rattle.results.proofs.Rows.{small, result-length}
+
+longest-by : (file : List ℕ) (reading : Reading) → readingOf file ≡ reading → length (written (resultBy file reading)) ≤ 132016
+longest-by file (Sections places) e = omega (arith, result-length file places, small file places e)
+longest-by file (Refused number place) e = omega (arith, length-written (1 ∷ 0 ∷ number ∷ []))
+
+pub longest : (file : List ℕ) → length (resultFile file) ≤ 132016
+unfolding resultFile
+longest file = longest-by file (readingOf file) refl
+
+-- What stands at the start of a room that bytes were put to, where there is room for them.
+pub put-first : (room bytes : List ℕ) → length bytes ≤ length room → Counts (length bytes) (put room 0 bytes) × (take (length bytes) (put room 0 bytes) ≡ bytes)
+put-first room bytes h = (
+  counts (length bytes) (put room 0 bytes) (omega (arith, length-put room bytes 0 (omega arith))),
+  ap (take (length bytes)) (put-fits room bytes 0 (omega arith)) ∙ take-append-seam bytes (drop (0 + length bytes) room),
+)

@@ -1,0 +1,37 @@
+-- The room is long enough, so the outcome's length is that of the result file, which stands at its start.
+use Prim.Native.Nat.{ℕ}
+use native.Mathlib.Omega.{arith}
+use mathlib.Core.Path.{_≡_, sym, ap, subst, _∙_}
+use mathlib.Core.List.{List}
+use borrow.Author.Needs.{needs}
+use lib.ListN.{length, take}
+use Rattle.io.specs.Counts.{Counts}
+use Rattle.runs.specs.Words.{put}
+use Rattle.results.specs.Results.{resultFile, fits}
+use Rattle.results.specs.declared.Outcome.{Outcome}
+use Rattle.propagate.proofs.Longest.{longest, put-first}
+use Rattle.propagate.proofs.results_of.Statement.{statement}
+use Rattle.propagate.proofs.results_of.Tie as tie
+
+abbrev Holds : (file : List ℕ) (n : ℕ) (room : List ℕ) → Type 0
+Holds file n room = Counts n room × (take n room ≡ resultFile file)
+
+told : (file room now : List ℕ) (outcome : Outcome) → 132016 ≡ length room → outcome ≡ fits (resultFile file) room → now ≡ put room 0 (resultFile file) →
+    Holds file (outcome .length) now
+unfolding fits
+told file room now outcome l e p =
+    subst (λ (s : List ℕ). Holds file (outcome .length) s) (sym p)
+    (subst (λ (n : ℕ). Holds file n (put room 0 (resultFile file))) (sym (ap (λ (o : Outcome). o .length) e))
+    (put-first room (resultFile file) (omega (arith, longest file))))
+
+write-results-requires : tie.Need-write-results-requires
+write-results-requires c κs = search needs
+
+returns : tie.Need-returns
+returns c =
+    let a = c .before .before .before .args in
+    let e = c .write-results .ensures in
+    told (a .file .now) (a .room .now) _ (c .write-results .result) (search needs) (e .0) (e .1)
+
+pub results-of-spec : {M : Type 1} → statement M
+results-of-spec = tie.close (tie.spec write-results-requires returns)

@@ -1,0 +1,79 @@
+// The program: an element file in, its result file out.
+//
+//     propagate [FILE]
+//
+// Reads the file that is named, or standard input where none is, and writes the result file to
+// standard output. What cannot be read or written is said on standard error, with its name, and no
+// result file is written then: a failed read is not an empty file. A program cannot set an exit
+// status here, so whoever runs it looks at what it wrote: nothing is never a result file.
+ghost use mathlib.Core.Path.{_≡_};
+ghost use lib.ListN.{take};
+ghost use Rattle.io.specs.Counts.{Counts};
+ghost use Rattle.results.specs.Results.{resultFile};
+use libc::STDERR_FILENO;
+use libc::STDIN_FILENO;
+use libc::STDOUT_FILENO;
+use streams::Taken;
+
+fn main() {
+    let arguments = os::arg_count();
+    if arguments > 2 {
+        streams::write_whole(STDERR_FILENO, b"usage: propagate [FILE]\n");
+    } else if arguments < 2 {
+        propagate(STDIN_FILENO, b"standard input");
+    } else {
+        propagate_named();
+    }
+}
+
+// The file that the first argument names.
+fn propagate_named() {
+    let mut path = io::buffer();
+    let length = os::arg(1, &mut path);
+    if os::errno() != 0 {
+        os::fail(b"the name of the file");
+        return;
+    }
+    let fd = os::open_read(&path[..length]);
+    if fd < 0 {
+        os::fail(&path[..length]);
+        return;
+    }
+    propagate(fd, &path[..length]);
+}
+
+// A file that is open, and is called by this name. The buffer has one byte more than the longest file
+// that can be accepted, which has 56,160: a file of which no more than this is read is refused as
+// the whole file would be (proofs/Cut.antt). It is closed before anything is written, since it may
+// have been given the number of an output that was closed.
+fn propagate(fd: i32, name: &[u8]) {
+    let mut file = [0u8; 56161];
+    match streams::read_whole(fd, &mut file) {
+        Taken::Bytes(n) => {
+            libc::close(fd);
+            answer(&file[..n]);
+        }
+        Taken::Failed => {
+            os::fail(name);
+        }
+    }
+}
+
+// Writes the result file of an element file to standard output.
+fn answer(file: &[u8]) {
+    let mut room = [0u8; 132016];
+    let length = results_of(file, &mut room);
+    if !streams::write_whole(STDOUT_FILENO, &room[..length]) {
+        os::fail(b"standard output");
+    }
+}
+
+// The result file of an element file stands at the start of the room, which is as long as the longest:
+// 16 bytes, and 88 for each of 1,500 requests. Answers its length.
+fn results_of(file: &[u8], room: &mut [u8; 132016]) -> usize
+    ensures { λ r. ⌜ Counts r (now (room .exit)) ⌝ }
+    ensures { λ r. ⌜ take r (now (room .exit)) ≡ resultFile (now (file .entry)) ⌝ }
+{
+    let outcome = results::write_results(file, room);
+    outcome.length
+}

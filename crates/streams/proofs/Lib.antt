@@ -1,0 +1,2 @@
+-- What a call's answer bounds, and what each public function leaves open.
+pub mod Parts
