@@ -12,13 +12,10 @@ use Rattle.search.specs.declared.pair.Pair.{Pair}
 use Rattle.search.specs.declared.pair.Next.{Next}
 use Rattle.search.specs.declared.pair.Next.the-variants.{Between, Exact, Unreadable, AllShort}
 use Rattle.search.specs.Trial.{placeOf, anomalyAt, trialAt}
-use Rattle.search.specs.History.{History, round, inward, outward, history, counted}
+use Rattle.search.specs.History.{History, inward, outward, history, counted}
 use Rattle.search.specs.Proposals.{threeProposals}
 
 -- The parts of the history, from a point on at which nothing of what was tried before matters.
-abbrev pub roundAt : Initial → Seconds → Pair → History
-roundAt i tau s = round (trialAt i tau) (threeProposals i tau) 0 [] s
-
 abbrev pub inwardAt : Initial → Seconds → (left : ℕ) → Pair → History
 inwardAt i tau left s = inward (trialAt i tau) (threeProposals i tau) left 0 [] s
 
