@@ -93,8 +93,3 @@ endedOf a =
     (pick (allFinite (figuresOf (resultsOf a))) (ended.Results (resultsOf a))
     (ended.Refused 8)))
     (ended.Refused 7)
-
--- The document's number, or 0.
-abbrev pub endedRefusal : Ended → ℕ
-endedRefusal (ended.Results r) = 0
-endedRefusal (ended.Refused n) = n
