@@ -42,10 +42,14 @@ fn propagate_named() {
     propagate(fd, &path[..length]);
 }
 
-// A file that is open, and is called by this name. The buffer has one byte more than the longest file
-// that can be accepted, which has 56,160: a file of which no more than this is read is refused as
-// the whole file would be (proofs/Cut.antt). It is closed before anything is written, since it may
-// have been given the number of an output that was closed.
+// A file that is open, and is called by this name. Of a longer file only the first 56,161 bytes are
+// read, and it is refused as the whole file would be. The reader walks forward, and its last section
+// ends at byte 56,160 at the latest, since no count is above its limit: so every word that it asks for
+// stands before, and so does the fault that it finds there first (21, which needs the file's end, is
+// none of them). If it finds none, a byte is left after the last section: 25, however many more follow.
+//
+// The file is closed before anything is written: where an output was closed when the program
+// started, the file has been given its number.
 fn propagate(fd: i32, name: &[u8]) {
     let mut file = [0u8; 56161];
     match streams::read_whole(fd, &mut file) {

@@ -1,2 +1,2 @@
--- What a call's answer bounds, and what each public function leaves open.
+-- What a call moves is a part of what it was handed.
 pub mod Parts

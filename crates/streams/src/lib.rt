@@ -8,7 +8,7 @@ ghost use Rattle.streams.specs.Calls.{callOf, Part, Within};
 use libc::EINTR;
 
 // What one call has done.
-pub enum Call {
+enum Call {
     Moved(usize),
     Nothing,
     Interrupted,
@@ -27,7 +27,7 @@ pub enum Taken {
 const PATIENCE: u64 = 1_000_000;
 
 // What a call has done that answered `got`; where that is -1, errno says whether it was a signal.
-pub fn call_of(got: isize, signal: bool) -> Call
+fn call_of(got: isize, signal: bool) -> Call
     ensures { λ r. ⌜ r ≡ callOf got signal ⌝ }
 {
     if got > 0 {

@@ -1,5 +1,5 @@
 -- By the sign of the answer, which the machine reads back from its bits; and by whether a signal came.
-use Prim.Native.Nat.{ℕ, zero, suc}
+use Prim.Native.Nat.{zero, suc}
 use mathlib.Core.Path.{_≡_, refl, sym, ap, subst, _∙_}
 use mathlib.Core.Bool.{Bool, true, false}
 use lib.Dec.{T}
@@ -10,7 +10,6 @@ use mir.Val.{toZ, ofZ}
 use mir.Facts.{toZ-ofZ, fits-natAbs, sfits-toZ, fits-ofZ}
 use native.Mathlib.Omega.{arith}
 use borrow.Author.Tests.{ltb-true, ltb-false}
-use Rattle.streams.specs.declared.Call.{Call}
 use Rattle.streams.specs.declared.Call.the-variants.{Moved, Nothing}
 use Rattle.streams.specs.Calls.{callOf, reasonOf}
 use Rattle.streams.proofs.call_of.Statement.{statement}

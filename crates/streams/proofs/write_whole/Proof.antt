@@ -1,7 +1,8 @@
+-- What was moved stays within the bytes. Each turn moves a byte or uses up patience.
 use borrow.Author.Needs.{needs}
 use native.Mathlib.Omega.{arith}
 use borrow.Author.Tests.{ltb-true}
-use Prim.Native.Nat.{ℕ, _+_, _-_, _≤_}
+use Prim.Native.Nat.{_+_, _-_, _≤_}
 use lib.ListN.{length}
 use Rattle.streams.proofs.Parts.{moved}
 use Rattle.streams.proofs.write_whole.Statement.{statement}
