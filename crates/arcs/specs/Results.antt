@@ -1,6 +1,5 @@
 -- Document 01, "Results and partials", its first paragraph, with refusals 7 and 8.
 use mathlib.Core.List.{List, [], _∷_, _++_}
-use Prim.Native.Nat.{ℕ}
 use lib.Ieee.{Float, lt, neg}
 use Rattle.bits.specs.Choice.{pick}
 use Rattle.bits.specs.Arithmetic.{_⊕_, _⊖_, _⊗_, _⊘_, n0, n1}
