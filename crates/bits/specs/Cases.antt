@@ -1,4 +1,4 @@
--- The marked cases of document 01 that are layer 1's, evaluated from the definitions.
+-- Some roots, evaluated from the definitions. Document 01's marked ones are in the table of crate `results`.
 use mathlib.Core.Path.{_≡_, refl}
 use Prim.Native.Nat.{ℕ}
 use lib.Ieee.{ofBits, toBits, div}
@@ -9,26 +9,6 @@ use Rattle.bits.specs.Root.{rootRefusalOf, rootWordOf, rootOf, rootRefus
 -- A word, the refusal and the root's word.
 abbrev pub Gives : ℕ → ℕ → ℕ → Type 0
 Gives word refusal root = (rootRefusalOf word ≡ refusal) × (rootWordOf word ≡ root)
-
--- P1: the root of 4 is 2.
-pub p1 : Gives 0x4010_0000_0000_0000 0 0x4000_0000_0000_0000
-unfolding rootWordOf
-p1 = (refl, refl)
-
--- P2: the root of 2.25 is 1.5.
-pub p2 : Gives 0x4002_0000_0000_0000 0 0x3ff8_0000_0000_0000
-unfolding rootWordOf
-p2 = (refl, refl)
-
--- P3: the root of 2^-1074 is 2^-537.
-pub p3 : Gives 1 0 0x1e60_0000_0000_0000
-unfolding rootWordOf
-p3 = (refl, refl)
-
--- P4: the root of -1 is refused with 9.
-pub p4 : Gives 0xbff0_0000_0000_0000 9 0
-unfolding rootWordOf
-p4 = (refl, refl)
 
 -- The root of either zero is +0; the nearest double to the root of 2, as any table has it; the root of the largest double is 2^512 less one digit;
 -- an infinity and a NaN are refused.

@@ -1,3 +1,3 @@
 -- Layer 5: the result file.
 pub mod Results
-pub mod Cases
+pub mod Marked

@@ -1,5 +1,5 @@
--- Document 01's marked cases of the search, and two searches with many inner points, computed here from the definitions. The figures of the two come from an
--- independent program.
+-- No interval, and a search with many inner points, computed here from the definitions; the figures come from an independent program. Document 01's marked cases
+-- are in the table of crate `results`.
 use Prim.Native.Nat.{ℕ}
 use mathlib.Core.Path.{_≡_, refl}
 use mathlib.Core.List.{List, [], _∷_}
@@ -13,7 +13,7 @@ use Rattle.search.specs.declared.figures.Sort.{Sort}
 use Rattle.search.specs.declared.figures.Sort.the-variants.{Short, Past, Exact}
 use Rattle.search.specs.Residual.{timeErrorOf, radiusOf}
 use Rattle.search.specs.Trial.{placeOf, anomalyAt, sortOf, unevaluated, evaluatedAt, trialAt}
-use Rattle.search.specs.History.{between, exact, unreadable, allShort, History, tries, ends, onward, outward, halving, inward, history, counted}
+use Rattle.search.specs.History.{between, exact, unreadable, allShort, History, tries, ends, onward, outward, halving, inward, history}
 use Rattle.search.specs.History as rule
 use Rattle.search.specs.Proposals.{offeredAt, byRadius, byInterval, byEnds, proposed}
 use Rattle.search.specs.Search.{historyAt, searchOf}
@@ -30,15 +30,6 @@ seconds tau = record { 0 = number tau }
 
 abbrev found : (psi points : ℕ) → Answer
 found psi points = answer.Found (record { 0 = number psi }) points
-
--- "P10 μ = 0, position (1,0,0), at rest, τ = 1: ψ = 1, 21 points. P11 the same, τ = −1: ψ = −1, 21 points." There r0 = 1, σ0 = α = 0 and H = 2^−20.
--- "P12 position (1,0,0), velocity (0,2^500,0), μ = 0, τ = 2^40: 6 with 1 point." There r0 = 1, σ0 = 0, α = 2^1000 and H = 2^20.
-pub marked :
-    (searchOf (initial 0 0x3ff0000000000000 0 0) (seconds 0x3ff0000000000000) (number 0x3eb0000000000000) ≡ found 0x3ff0000000000000 21)
-    × (searchOf (initial 0 0x3ff0000000000000 0 0) (seconds 0xbff0000000000000) (number 0x3eb0000000000000) ≡ found 0xbff0000000000000 21)
-    × (searchOf (initial 0 0x3ff0000000000000 0 0x7e70000000000000) (seconds 0x4270000000000000) (number 0x4130000000000000) ≡ answer.Unreadable 1)
-unfolding searchOf ofBits toBits sub mul div lt ne beyondOne reducedFrom nested c4Of c5Of atReduced coefficientsOf sumsOf timeErrorOf anomalyAt sortOf unevaluated evaluatedAt trialAt onward outward history counted
-marked = (refl, refl, refl)
 
 -- "If τ is either zero, ψ = +0 with no trial points."
 pub no-interval : (i : Initial) (h : Float) → (searchOf i (seconds 0) h ≡ found 0 0) × (searchOf i (seconds 0x8000000000000000) h ≡ found 0 0)
@@ -108,49 +99,3 @@ forward :
     ∷ [])
 unfolding ofBits toBits neg add sub mul div lt eq ne beyondOne reducedFrom nested c4Of c5Of atReduced doublings quotientsOf coefficientsOf sumsOf timeErrorOf radiusOf anomalyAt sortOf unevaluated evaluatedAt trialAt onward outward halving rule.round inward history offeredAt byRadius byInterval byEnds proposed
 forward = refl
-
--- Back in time: position (-4000, -8000, 7000) km, velocity (3.5, -5.6, -3.5) km/s, τ = -3600 s. After 21 outward points there are eight rounds: the first,
--- second, first, third, first and first proposal, and twice none.
-backward :
-    Tries (initial 0x41185421c467381d 0x40c62ee88959b1a2 0x40b89c0000000000 0xc02ca8c47bbc2e10) (seconds 0xc0ac200000000000) (number 0x3e94491c5a5b2f49)
-    (
-    short 0x3e94491c5a5b2f49 0x40ac1ffe3e000279
-    ∷ short 0x3ea4491c5a5b2f49 0x40ac1ffc7c0009e4
-    ∷ short 0x3eb4491c5a5b2f49 0x40ac1ff8f800278f
-    ∷ short 0x3ec4491c5a5b2f49 0x40ac1ff1f0009e3a
-    ∷ short 0x3ed4491c5a5b2f49 0x40ac1fe3e00278e4
-    ∷ short 0x3ee4491c5a5b2f49 0x40ac1fc7c009e36a
-    ∷ short 0x3ef4491c5a5b2f49 0x40ac1f8f80278c70
-    ∷ short 0x3f04491c5a5b2f49 0x40ac1f1f009e27fa
-    ∷ short 0x3f14491c5a5b2f49 0x40ac1e3e027851ad
-    ∷ short 0x3f24491c5a5b2f49 0x40ac1c7c09ded4d5
-    ∷ short 0x3f34491c5a5b2f49 0x40ac18f82767c449
-    ∷ short 0x3f44491c5a5b2f49 0x40ac11f09d029702
-    ∷ short 0x3f54491c5a5b2f49 0x40ac03e26f266ee9
-    ∷ short 0x3f64491c5a5b2f49 0x40abe7c9957899d8
-    ∷ short 0x3f74491c5a5b2f49 0x40abafa51cbeb8b9
-    ∷ short 0x3f84491c5a5b2f49 0x40ab3f8aa851021d
-    ∷ short 0x3f94491c5a5b2f49 0x40aa5fdc36e2446a
-    ∷ short 0x3fa4491c5a5b2f49 0x40a8a0fcadf8a948
-    ∷ short 0x3fb4491c5a5b2f49 0x40a518527b972067
-    ∷ short 0x3fc4491c5a5b2f49 0x409aec666a8a08ad
-    ∷ past 0x3fd4491c5a5b2f49 0xc08ba2df833f2b20
-    ∷ past 0x3fd17f51e16d1ca6 0xc049aaf2e8163440
-    ∷ short 0x3fcae4371de425f7 0x408f0476a00647bc
-    ∷ short 0x3fd127220b8379b1 0x40465cf9a8f3d540
-    ∷ past 0x3fd15339f6784b2b 0xc008fd2b8c0ba000
-    ∷ past 0x3fd1505bdd109d7e 0xbf49137dce000000
-    ∷ short 0x3fd13bbef44a0b97 0x403666f5ca127100
-    ∷ short 0x3fd1505baeeb7c08 0x3eb6a03200000000
-    ∷ past 0x3fd1505bc5fe0cc3 0xbf39082da9000000
-    ∷ past 0x3fd1505baf004417 0xbda8000000000000
-    ∷ short 0x3fd1505baef5e00f 0x3ea6a02700000000
-    ∷ short 0x3fd1505baf00440c 0x3d60000000000000
-    ∷ past 0x3fd1505baf004411 0xbd94000000000000
-    ∷ past 0x3fd1505baf00440e 0xbd80000000000000
-    ∷ past 0x3fd1505baf00440d 0xbd78000000000000
-    ∷ short 0x3fd1505baf00440c 0x3d60000000000000
-    ∷ past 0x3fd1505baf00440d 0xbd78000000000000
-    ∷ [])
-unfolding ofBits toBits neg add sub mul div lt eq ne beyondOne reducedFrom nested c4Of c5Of atReduced doublings quotientsOf coefficientsOf sumsOf timeErrorOf radiusOf anomalyAt sortOf unevaluated evaluatedAt trialAt onward outward halving rule.round inward history offeredAt byRadius byInterval byEnds proposed
-backward = refl

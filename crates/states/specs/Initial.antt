@@ -1,7 +1,7 @@
 -- Document 01, "Initial figures and series (document 003, 3.4)", up to H, with refusals 3 and 4. The state and τ may be any doubles.
 use mathlib.Core.Path.{_≡_, refl}
 use mathlib.Core.List.{[], _∷_}
-use Prim.Native.Nat.{ℕ, _^_}
+use Prim.Native.Nat.{_^_}
 use lib.IntN.{pos}
 use lib.Ieee.{Float, binary64, div, eq, ofBits, ofInt}
 use Rattle.bits.specs.Choice.{pick}
@@ -34,11 +34,6 @@ unfoldable pub begunOf : Float → State → Begun
 begunOf mu s =
     let sum = dot (s .position) (s .position) in
     begunFrom mu sum (rootOf sum) (dot (s .position) (s .velocity)) (dot (s .velocity) (s .velocity))
-
--- The document's number, or 0.
-abbrev pub begunRefusal : Begun → ℕ
-begunRefusal (begun.Initial i) = 0
-begunRefusal (begun.Refused n) = n
 
 -- "2^−20"
 abbrev pub twoToMinus20 : Float
