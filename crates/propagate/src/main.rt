@@ -43,10 +43,9 @@ fn propagate_named() {
 }
 
 // A file that is open, and is called by this name. Of a longer file only the first 56,161 bytes are
-// read, and it is refused as the whole file would be. The reader walks forward, and its last section
-// ends at byte 56,160 at the latest, since no count is above its limit: so every word that it asks for
-// stands before, and so does the fault that it finds there first (21, which needs the file's end, is
-// none of them). If it finds none, a byte is left after the last section: 25, however many more follow.
+// read, one more than can be accepted, and their result file is that of the whole, whatever follows
+// (`cut`, in proofs/Cut.antt): the reader walks forward, no word that it asks for stands behind byte
+// 56,160, and where it finds no fault before, a byte is left after the last section: 25.
 //
 // The file is closed before anything is written: where an output was closed when the program
 // started, the file has been given its number.
