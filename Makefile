@@ -27,7 +27,7 @@ BESIDE = bench/plain.c bench/plain_root.c bench/plain_search.c bench/newton.c be
 
 # One step at a time, in the order written: what is cheap to find wrong comes before what takes minutes.
 .NOTPARALLEL:
-.PHONY: run state check test fuzz bench program lib clean kit layout machine header edition readme tried
+.PHONY: run state check test fuzz bench program lib clean kit layout machine header edition readme selfcheck tried
 
 # What make run shows.
 ELEMENTS = examples/orbits.elements
@@ -42,7 +42,7 @@ state: build/host/propagate
 check: layout test
 	@rt ci
 
-test: machine header edition readme build/host/propagate tried $(TESTS)
+test: machine header edition readme selfcheck build/host/propagate tried $(TESTS)
 	@for test in $(TESTS); do $(X86) run "$$test" || exit 1; done
 
 fuzz: machine $(FUZZ)
@@ -88,13 +88,17 @@ edition: machine lib
 readme: machine lib
 	@sh tests/readme.sh
 
+selfcheck: machine lib
+	@sh tests/selfcheck.sh
+
 tried: machine program build/host/elements build/host/show build/tests/second_results
 	@sh tests/program.sh
 
 SECOND = $(patsubst %,build/tests/second/%.o,root series search states files)
 SELFTEST = $(patsubst %,build/tests/second/selftest%.o,_root _calls _orbits _files)
-HEADERS = include/kelubashi.h $(wildcard tests/*.h tests/second/*.h)
+HEADERS = include/kelubashi.h $(wildcard host/*.h tests/*.h tests/second/*.h)
 
+build/host/propagate: build/host/selfcheck.o
 build/tests/case_files: build/tests/expected.o
 build/tests/propagate: $(patsubst %,build/tests/%.o,drive orbits aimed aimed_search inputs aims) $(SECOND)
 build/tests/files: $(patsubst %,build/tests/%.o,drive orbits sections damaged lent) $(SECOND)

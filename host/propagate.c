@@ -4,8 +4,11 @@
 **     propagate [MU X Y Z VX VY VZ TAU]
 **
 **  in km^3/s^2, km, km/s and s; with no figures, a low Earth orbit is followed for 600 s. The exit
-**  status is 0 where the library answers, so that a script can tell an answer from a refusal.
+**  status is 0 where the library answers, so that a script can tell an answer from a refusal, and from
+**  a processor or a library that the self-check finds wrong.
 */
+#include "selfcheck.h"
+
 #include "kelubashi.h"
 
 #include <inttypes.h>
@@ -124,9 +127,15 @@ int main(int count, char **texts)
 {
     double figures[FIGURES];
     const double *given = count > 1 ? figures : EXAMPLE;
+    const char *wrong = kelubashi_selfcheck();
     uint64_t answer[KELUBASHI_ANSWER];
     uint64_t number;
 
+    /* Once, before all else: strtod needs a sound processor too. */
+    if (wrong != NULL) {
+        fprintf(stderr, "propagate: %s\n", wrong);
+        return EXIT_FAILURE;
+    }
     if (count > 1 && (count != FIGURES + 1 || !read_figures(texts + 1, figures))) {
         fprintf(stderr, "usage: propagate [MU X Y Z VX VY VZ TAU], in km^3/s^2, km, km/s and s\n");
         return EXIT_FAILURE;

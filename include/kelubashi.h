@@ -13,6 +13,7 @@
 **
 **  The figures are those of a processor that rounds to nearest and keeps subnormal numbers, as
 **  programs find it when they start. Do not link with -ffast-math, which changes that.
+**  host/selfcheck.h has a call that sees it, for the start of a program.
 **
 **  The symbols carry the edition: a program built with the header of another edition does not link.
 */

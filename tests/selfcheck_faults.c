@@ -1,0 +1,157 @@
+/*
+**  The self-check on libraries that answer otherwise than edition 1 does.
+**
+**  The library here is the second program. As it is, the self-check has to be silent, so what it
+**  expects is not the library's own word alone; with each fault the first case astray has to be told.
+*/
+#include "../host/selfcheck.h"
+
+#include "kelubashi.h"
+#include "second/second.h"
+
+#include <stdio.h>
+#include <stdlib.h>
+#include <string.h>
+
+enum fault {
+    NONE, ROOT_OF_ZEROS, ROOT_DROPS_SUBNORMALS, ROOT_NEVER_REFUSES, ROOT_CUT_OFF,
+    ZEROS, NOTHING_WRITTEN, OTHER_NUMBERS, OTHER_COUNT, NO_REFUSAL_WORD, ONE_POINT_MORE, MINUS_ZERO_LOST,
+    SIGN_OF_PSI_LOST, ACCELERATIONS_EXCHANGED, LAST_BIT, SUBNORMALS_DROPPED
+};
+
+static enum fault fault;
+
+#define DOES_NOT "the library does not answer as edition 1 does at "
+
+static const struct telling {
+    enum fault fault;
+    const char *words;
+} TELLINGS[] = {
+    { ROOT_OF_ZEROS, DOES_NOT "P1: the root is 0000000000000000 and not 4000000000000000: " },
+    { ROOT_DROPS_SUBNORMALS, DOES_NOT "P3: the root is 0000000000000000 and not 1E60000000000000: " },
+    { ROOT_NEVER_REFUSES, DOES_NOT "P4: the status is 0 and not 9: " },
+    { ROOT_CUT_OFF, DOES_NOT "the root of 2: the root is 3FF6A09E667F3BCC and not 3FF6A09E667F3BCD: " },
+    { ZEROS, DOES_NOT "P6: the status is 0 and not 3: " },
+    { NOTHING_WRITTEN, DOES_NOT "P6: the refusal is " },
+    { OTHER_NUMBERS, DOES_NOT "P6: the status is 4 and not 3: " },
+    { OTHER_COUNT, DOES_NOT "P6: the status is 60 and not 3: " },
+    { NO_REFUSAL_WORD, DOES_NOT "P6: the refusal is 0 and not 3: " },
+    { ONE_POINT_MORE, DOES_NOT "P10: the count of points is 22 and not 21: " },
+    { MINUS_ZERO_LOST, DOES_NOT "P10: ax at the end is 0000000000000000 and not 8000000000000000: " },
+    { SIGN_OF_PSI_LOST, DOES_NOT "P11: psi is 3FF0000000000000 and not BFF0000000000000: " },
+    { ACCELERATIONS_EXCHANGED, DOES_NOT "the low Earth orbit: ax at the end is " },
+    { LAST_BIT, DOES_NOT "the low Earth orbit: vz is C001008399837D4F and not C001008399837D4E: " },
+    { SUBNORMALS_DROPPED, DOES_NOT "the subnormal orbit: vy is 0000000000000000 and not 0000100000000000: " }
+};
+
+static int is_subnormal(uint64_t word)
+{
+    return (word >> 52 & 0x7FF) == 0 && word << 12 != 0;
+}
+
+uint64_t kelubashi1_root(uint64_t word, uint64_t *answer, size_t n)
+{
+    uint64_t status = second_root(word, answer, n);
+
+    if (fault == ROOT_OF_ZEROS || (fault == ROOT_DROPS_SUBNORMALS && is_subnormal(word)))
+        *answer = 0;
+    if (fault == ROOT_CUT_OFF && *answer << 12 != 0)
+        *answer &= ~UINT64_C(1);
+    return fault == ROOT_NEVER_REFUSES ? 0 : status;
+}
+
+static void exchange_accelerations(uint64_t *answer)
+{
+    int i;
+
+    for (i = 0; i < 3; i++) {
+        uint64_t end = answer[KELUBASHI_END_AX + i];
+        answer[KELUBASHI_END_AX + i] = answer[KELUBASHI_START_AX + i];
+        answer[KELUBASHI_START_AX + i] = end;
+    }
+}
+
+/* Every figure that is this word, or any subnormal where the word is 0, becomes +0. */
+static void drop(uint64_t *answer, uint64_t word)
+{
+    int i;
+
+    for (i = KELUBASHI_X; i < KELUBASHI_ANSWER; i++)
+        if (word == 0 ? is_subnormal(answer[i]) : answer[i] == word)
+            answer[i] = 0;
+}
+
+/* The answer with the fault. */
+static void spoil(uint64_t *answer)
+{
+    switch (fault) {
+    case ZEROS:
+        memset(answer, 0, KELUBASHI_ANSWER * sizeof *answer);
+        break;
+    case OTHER_NUMBERS:
+        answer[KELUBASHI_REFUSAL] += answer[KELUBASHI_REFUSAL] != 0;
+        break;
+    case NO_REFUSAL_WORD:
+        memmove(answer, answer + 1, (KELUBASHI_ANSWER - 1) * sizeof *answer);
+        break;
+    case ONE_POINT_MORE:
+        answer[KELUBASHI_POINTS] += answer[KELUBASHI_POINTS] != 0;
+        break;
+    case MINUS_ZERO_LOST:
+        drop(answer, UINT64_C(0x8000000000000000));
+        break;
+    case SIGN_OF_PSI_LOST:
+        answer[KELUBASHI_PSI] &= ~UINT64_C(0x8000000000000000);
+        break;
+    case ACCELERATIONS_EXCHANGED:
+        exchange_accelerations(answer);
+        break;
+    case LAST_BIT:
+        answer[KELUBASHI_VZ] ^= answer[KELUBASHI_VZ] != 0;
+        break;
+    case SUBNORMALS_DROPPED:
+        drop(answer, 0);
+        break;
+    default:
+        break;
+    }
+}
+
+uint64_t kelubashi1_propagate(uint64_t mu, uint64_t x, uint64_t y, uint64_t z,
+                              uint64_t vx, uint64_t vy, uint64_t vz, uint64_t tau,
+                              uint64_t *answer, size_t n)
+{
+    uint64_t right[KELUBASHI_ANSWER];
+    uint64_t status = second_propagate(mu, x, y, z, vx, vy, vz, tau, right, n);
+
+    if (fault == OTHER_COUNT)
+        return 60;
+    spoil(right);
+    if (fault == ZEROS || fault == OTHER_NUMBERS)
+        status = right[KELUBASHI_REFUSAL];
+    if (fault != NOTHING_WRITTEN)
+        memcpy(answer, right, sizeof right);
+    return status;
+}
+
+int main(void)
+{
+    size_t i, count = sizeof TELLINGS / sizeof TELLINGS[0];
+    const char *line = kelubashi_selfcheck();
+
+    if (line != NULL) {
+        printf("selfcheck: with the second program it should be silent, and says: %s\n", line);
+        return EXIT_FAILURE;
+    }
+    for (i = 0; i < count; i++) {
+        fault = TELLINGS[i].fault;
+        line = kelubashi_selfcheck();
+        if (line == NULL || strncmp(line, TELLINGS[i].words, strlen(TELLINGS[i].words)) != 0 ||
+            strchr(line, '\n') != NULL || strstr(line, ": link the ") == NULL) {
+            printf("selfcheck: it should say '%s..', and says: %s\n", TELLINGS[i].words, line == NULL ? "nothing" : line);
+            return EXIT_FAILURE;
+        }
+    }
+    printf("selfcheck: silent with the second program for a library; %u faults of a library told\n", (unsigned)count);
+    return EXIT_SUCCESS;
+}
