@@ -6,6 +6,7 @@
 # make bench    instructions per call (and time on x86-64) beside plain C of the same rules: see bench/README.md
 # make program  build/propagate, the program, for x86-64, proved
 # make lib      build/libkelubashi.a, for x86-64, from proved crates only
+# make install  header, archive, pkg-config file, program and manual pages: make install PREFIX=/usr/local DESTDIR=
 # make clean    remove build/ and rt's target/
 
 X86 = sh tests/machine.sh
@@ -27,7 +28,8 @@ BESIDE = bench/plain.c bench/plain_root.c bench/plain_search.c bench/newton.c be
 
 # One step at a time, in the order written: what is cheap to find wrong comes before what takes minutes.
 .NOTPARALLEL:
-.PHONY: run state check test fuzz bench program lib clean kit layout machine header edition readme selfcheck tried
+.PHONY: run state check test fuzz bench program lib install install-files clean
+.PHONY: kit layout machine header edition readme selfcheck installed tried
 
 # What make run shows.
 ELEMENTS = examples/orbits.elements
@@ -42,7 +44,7 @@ state: build/host/propagate
 check: layout test
 	@rt ci
 
-test: machine header edition readme selfcheck build/host/propagate tried $(TESTS)
+test: machine header edition readme selfcheck installed build/host/propagate tried $(TESTS)
 	@for test in $(TESTS); do $(X86) run "$$test" || exit 1; done
 
 fuzz: machine $(FUZZ)
@@ -67,6 +69,31 @@ program: kit
 	@rt check propagate >build/program.log 2>&1 || { cut -c 1-1500 build/program.log; exit 1; }
 	@cp target/bin/propagate build/
 
+# Where the files go, and, for those who make packages, a folder that stands for the root.
+PREFIX = /usr/local
+DESTDIR =
+INTO = $(DESTDIR)$(PREFIX)
+MAN = $(INTO)/share/man
+FOLDERS = include lib/pkgconfig bin share/man/man1 share/man/man3 share/man/man5
+CALLS = root propagate partials read write results
+
+install: lib program install-files
+
+# Copies what is in build/ and writes nothing there, so that root can do it after another has built. A folder
+# that is there is left alone: install -d would set its mode.
+install-files:
+	@case '$(PREFIX)' in /*) ;; *) echo "install: PREFIX is '$(PREFIX)': give it as a path from / on" >&2; exit 1 ;; esac
+	for folder in $(FOLDERS); do [ -d '$(INTO)'/$$folder ] || install -d '$(INTO)'/$$folder || exit 1; done
+	install -m 644 include/kelubashi.h '$(INTO)/include'
+	install -m 644 build/libkelubashi.a '$(INTO)/lib'
+	sed 's|@PREFIX@|$(PREFIX)|' kelubashi.pc.in >'$(INTO)/lib/pkgconfig/kelubashi.pc'
+	chmod 644 '$(INTO)/lib/pkgconfig/kelubashi.pc'
+	install -m 755 build/propagate '$(INTO)/bin'
+	install -m 644 man/propagate.1 '$(MAN)/man1'
+	install -m 644 man/kelubashi.3 '$(MAN)/man3'
+	for call in $(CALLS); do ln -sf kelubashi.3 '$(MAN)'/man3/kelubashi1_$$call.3 || exit 1; done
+	install -m 644 man/kelubashi-elements.5 man/kelubashi-results.5 '$(MAN)/man5'
+
 clean:
 	rm -rf build target
 
@@ -90,6 +117,9 @@ readme: machine lib
 
 selfcheck: machine lib
 	@sh tests/selfcheck.sh
+
+installed: machine lib program build/tests/second_results
+	@sh tests/install.sh
 
 tried: machine program build/host/elements build/host/show build/tests/second_results
 	@sh tests/program.sh

@@ -4,13 +4,8 @@ set -eu
 cd "$(dirname "$0")/.."
 mkdir -p build/readme
 
-# The lines of the README's block of this kind.
-block() {
-    sed -n "/^\`\`\`$1\$/,/^\`\`\`\$/p" README.md | grep -v '^```'
-}
-
-block c >build/readme/program.c
-block text >build/readme/expected
+sh tests/block.sh c >build/readme/program.c
+sh tests/block.sh text >build/readme/expected
 sh tests/machine.sh compile -std=c99 -Wall -Wextra -pedantic -Werror -Iinclude -o build/readme/program \
     build/readme/program.c build/libkelubashi.a
 sh tests/machine.sh run build/readme/program >build/readme/printed

@@ -1,0 +1,193 @@
+#!/bin/sh
+# What make install puts down: these files and no others, with these modes; a host that pkg-config alone
+# builds, the program, and manual pages that say what the header says.
+set -eu
+cd "$(dirname "$0")/.."
+export LC_ALL=C     # lists are sorted and compared below
+room=$(mktemp -d)
+trap 'rm -rf "$room"' EXIT
+prefix=/opt/station
+root=$room/root
+
+fail() {
+    echo "install: $1" >&2
+    exit 1
+}
+
+# ---- pkg-config: where root, install it; else ask for it.
+
+if ! command -v pkg-config >/dev/null; then
+    advice='as root on Debian: apt-get install pkgconf'
+    if [ "$(id -u)" -ne 0 ] || ! command -v apt-get >/dev/null; then
+        fail "pkg-config is not found; $advice"
+    fi
+    echo 'install: installing pkgconf'
+    export DEBIAN_FRONTEND=noninteractive
+    log=build/install.log
+    get='apt-get install -y -qq --no-install-recommends pkgconf'
+    # a fresh machine has no lists of packages, or old ones
+    { $get || { apt-get update -qq && $get; }; } >"$log" 2>&1 || true
+    command -v pkg-config >/dev/null || fail "installing did not help: pkg-config is not found; $advice ($log has what was tried)"
+fi
+
+# ---- The files: what is copied, and nothing else.
+
+calls=$(grep -o 'kelubashi1_[a-z]*' include/kelubashi.h | sort -u)
+
+# Only what is in build/ is copied, and under a narrow umask, which must not matter.
+put() {
+    (umask 077 && make -s --no-print-directory install-files DESTDIR="$root" PREFIX="$prefix") ||
+        fail 'make install-files fails'
+}
+
+mkdir "$root"
+put
+[ -z "$(find "$root$prefix" -type d ! -perm 755)" ] || fail 'a folder does not have the mode 755'
+chmod 711 "$root$prefix" "$root$prefix/bin"
+put
+[ "$(find "$root$prefix" -type d ! -perm 755 | wc -l)" -eq 2 ] || fail 'the mode of a folder that was there is changed'
+
+{
+    echo '755 bin/propagate'
+    echo '644 include/kelubashi.h'
+    echo '644 lib/libkelubashi.a'
+    echo '644 lib/pkgconfig/kelubashi.pc'
+    echo '644 share/man/man1/propagate.1'
+    echo '644 share/man/man3/kelubashi.3'
+    echo '644 share/man/man5/kelubashi-elements.5'
+    echo '644 share/man/man5/kelubashi-results.5'
+    echo "$calls" | sed 's|.*|link share/man/man3/&.3 -> kelubashi.3|'
+} | sort >"$room/wanted"
+{
+    find "$root" -type f -printf "%m %P\n"
+    find "$root" -type l -printf "link %P -> %l\n"
+} | sed "s|${prefix#/}/||" | sort >"$room/there"
+diff "$room/wanted" "$room/there" || fail 'the files marked < are not installed, and those marked > should not be'
+
+there=$root$prefix
+cmp include/kelubashi.h "$there/include/kelubashi.h" || fail 'another header is installed'
+cmp build/libkelubashi.a "$there/lib/libkelubashi.a" || fail 'another archive is installed'
+cmp build/propagate "$there/bin/propagate" || fail 'another program is installed'
+if grep -rF "$room" "$there" >"$room/found"; then
+    fail "a file has DESTDIR in it: $(cat "$room/found")"
+fi
+
+if make -s --no-print-directory install-files DESTDIR="$room/other" PREFIX=here >"$room/said" 2>&1; then
+    fail 'a PREFIX that does not start with / is taken'
+fi
+[ ! -e "$room/other" ] || fail 'something is installed although PREFIX does not start with /'
+
+# ---- The README's host, far from this folder, with the words of pkg-config and no others.
+
+config() {
+    PKG_CONFIG_PATH='' PKG_CONFIG_LIBDIR="$there/lib/pkgconfig" PKG_CONFIG_SYSROOT_DIR="$root" pkg-config "$@"
+}
+
+grep -qx "prefix=$prefix" "$there/lib/pkgconfig/kelubashi.pc" || fail 'kelubashi.pc does not have PREFIX'
+flags=$(config --cflags --libs kelubashi) || fail 'pkg-config does not find the library'
+sh tests/block.sh c >"$room/program.c"
+sh tests/block.sh text >"$room/expected"
+here=$PWD
+# shellcheck disable=SC2086 # a list of words
+(cd "$room" && sh "$here/tests/machine.sh" compile -o program program.c $flags) ||
+    fail "the README's program does not compile with: $flags"
+sh tests/machine.sh run "$room/program" >"$room/printed"
+diff "$room/expected" "$room/printed" || fail "the README's program prints the lines marked >"
+
+# ---- The program, against the second program's results.
+
+sh tests/machine.sh run build/tests/second_results <examples/orbits.elements >"$room/expected"
+sh tests/machine.sh run "$there/bin/propagate" examples/orbits.elements >"$room/results" 2>"$room/said"
+cmp "$room/expected" "$room/results" || fail 'the installed program writes other results'
+[ ! -s "$room/said" ] || fail "the installed program says: $(cat "$room/said")"
+
+# ---- The pages.
+
+page() {
+    echo "$there/share/man/man${1##*.}/$1"
+}
+
+has() {
+    grep -qx "\.SH $2" "$(page "$1")" || fail "$1 has no section $2"
+}
+
+for name in propagate.1 kelubashi.3 kelubashi-elements.5 kelubashi-results.5; do
+    has "$name" NAME
+    has "$name" DESCRIPTION
+    has "$name" 'SEE ALSO'
+done
+has propagate.1 SYNOPSIS
+has propagate.1 'EXIT STATUS'
+has kelubashi.3 SYNOPSIS
+
+# The header's refusals, each as 'call number'; 'a to b' is every number of these.
+awk '
+    /^\*\* +[0-9]+( to [0-9]+)?   / { for (i = $2; i <= ($3 == "to" ? $4 : $2); i++) if (i > 0) numbers = numbers " " i }
+    /^uint64_t kelubashi1_/ {
+        name = $2
+        sub(/\(.*/, "", name)
+        count = split(numbers, list, " ")
+        for (i = 1; i <= count; i++) print name, list[i]
+        numbers = ""
+    }
+' include/kelubashi.h >"$room/refusals"
+
+# The numbers of $1's list of refusals, in its order, are those on standard input.
+refuses() {
+    sed -n '/^\.SH REFUSALS/,/^\.SH EXAMPLES/s/^\.B \([0-9]*\)$/\1/p' "$(page "$1")" >"$room/listed"
+    sort -nu >"$room/given"
+    [ -s "$room/given" ] || fail 'no refusals are found in the header'
+    diff "$room/given" "$room/listed" || fail "$1: the header's refusals are marked <, the page's >"
+}
+
+cut -d ' ' -f 2 "$room/refusals" | refuses kelubashi.3
+sed -n 's/kelubashi1_read //p' "$room/refusals" | grep -vx 60 | refuses kelubashi-elements.5
+sed -n 's/kelubashi1_propagate //p' "$room/refusals" | grep -vx 60 | refuses kelubashi-results.5
+
+# And call by call, in the line that sums them up.
+awk '
+    /^\.SS / { name = $2 }
+    /^Refusals: / {
+        gsub(/[^0-9]*[^0-9 to][^0-9]*/, " ")
+        for (i = 1; i <= NF; i++) {
+            if ($i == "to") { for (j = $(i - 1) + 1; j < $(i + 1); j++) print name, j }
+            else print name, $i
+        }
+    }
+' "$(page kelubashi.3)" | sort -u >"$room/summed"
+sort -u "$room/refusals" | diff - "$room/summed" || fail 'kelubashi.3: the refusals of a call are marked < as in the header, > as in the page'
+
+# The calls as the header has them, their words without the spaces.
+awk '/^uint64_t kelubashi1_/ { on = 1 } on { print } /;/ { on = 0 }' include/kelubashi.h | tr -d ' \n' | tr ';' '\n' >"$room/header"
+sed -n '/^\.SH SYNOPSIS/,/^\.SH/s/^\.BI //p' "$(page kelubashi.3)" | tr -d '" \n' | tr ';' '\n' |
+    grep kelubashi1_ >"$room/synopsis"
+diff "$room/header" "$room/synopsis" || fail 'kelubashi.3: the header has the calls marked <, the page those marked >'
+grep -o 'KELUBASHI_[A-Z_]*' "$(page kelubashi.3)" | sort -u >"$room/constants"
+while read -r constant; do
+    grep -qw "$constant" include/kelubashi.h || fail "kelubashi.3: the header has no $constant"
+done <"$room/constants"
+for call in $calls; do
+    sed -n '/^\.SH NAME/,/^\.SH SYNOPSIS/p' "$(page "$call.3")" | grep -qw "$call" || fail "$call.3 does not name $call"
+    grep -qx "\.SS $call" "$(page "$call.3")" || fail "$call.3 does not explain $call"
+done
+
+# The examples of the two files are P10's, byte by byte.
+example() {
+    sed -n 's/^ *\([0-9][0-9]*\)   \([0-9a-f]\{16\}\)   .*/\1 \2/p' "$(page "$1")" | head -n "$(($(wc -c <"$2") / 8))" >"$room/example"
+    od -A d -v -t x8 -w8 "$2" | awk 'NF == 2 { print $1 + 0, $2 }' >"$room/words"
+    diff "$room/words" "$room/example" || fail "$1: its example is not $2, whose words are marked <"
+}
+
+example kelubashi-elements.5 crates/propagate/data/p10.elements
+example kelubashi-results.5 crates/propagate/stdout
+
+set_by='not set, since this machine has no groff'
+if command -v groff >/dev/null; then
+    set_by='set by groff without a warning'
+    for source in "$there"/share/man/man?/*; do
+        groff -man -Tutf8 -ww "$source" >"$room/page" 2>"$room/said" || fail "groff does not set ${source##*/}: $(cat "$room/said")"
+        [ ! -s "$room/said" ] || fail "groff says of ${source##*/}: $(cat "$room/said")"
+    done
+fi
+
+echo "install: $(wc -l <"$room/there") files and no others; the README's program, with pkg-config alone; propagate; the pages, $set_by"
