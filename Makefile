@@ -22,9 +22,9 @@ N = 1000000
 SEED := $(shell date +%s)
 FIRST = 0
 
-# The table's rows: root propagate partials, as far as the library has the calls.
-BENCH = root propagate partials
-BESIDE = bench/plain.c bench/plain_root.c bench/plain_search.c bench/newton.c bench/orbits.c bench/empty.c bench/row.c
+# The table's rows.
+BENCH = root propagate partials results
+BESIDE = bench/plain.c bench/plain_root.c bench/plain_search.c bench/plain_results.c bench/newton.c bench/orbits.c bench/empty.c bench/row.c
 
 # One step at a time, in the order written: what is cheap to find wrong comes before what takes minutes.
 .NOTPARALLEL:

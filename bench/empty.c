@@ -25,3 +25,9 @@ uint64_t empty_partials(uint64_t mu, uint64_t x, uint64_t y, uint64_t z,
     (void)run, (void)k;
     return 0;
 }
+
+uint64_t empty_results(const uint8_t *file, size_t length, uint8_t *room, size_t size, uint64_t *answer, size_t n)
+{
+    (void)file, (void)length, (void)room, (void)size, (void)answer, (void)n;
+    return 0;
+}

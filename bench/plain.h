@@ -19,6 +19,8 @@ uint64_t plain_partials(uint64_t mu, uint64_t x, uint64_t y, uint64_t z,
                         uint64_t vx, uint64_t vy, uint64_t vz, uint64_t tau,
                         uint64_t *answer, size_t n, uint64_t *run, size_t k);
 
+uint64_t plain_results(const uint8_t *file, size_t length, uint8_t *room, size_t size, uint64_t *answer, size_t n);
+
 /* The same root by the processor's own instruction: what a host could use where its processor is to be trusted. */
 uint64_t processor_root(uint64_t word, uint64_t *answer, size_t n);
 

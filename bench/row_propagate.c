@@ -1,5 +1,5 @@
 /*
-**  The row of the propagation, over the fixed set of orbits.
+**  The row of the propagation, over the fixed set of orbits; and the library over each quarter of it, by the trial points that an orbit needs.
 */
 #include "kelubashi.h"
 #include "orbits.h"
@@ -8,20 +8,56 @@
 
 #include <math.h>
 #include <stdio.h>
+#include <stdlib.h>
 #include <string.h>
 
-static const char *const columns[] = { "library", "plain", "newton", "empty", NULL };
+#define QUARTER (ORBITS / 4)
+
+static const char *const columns[] = { "library", "plain", "newton", "empty", "fewest", "fewer", "more", "most", NULL };
+
+enum { FEWEST = 4 };     /* the first column of a quarter */
 
 static uint64_t (*const calls[])(uint64_t, uint64_t, uint64_t, uint64_t, uint64_t, uint64_t, uint64_t, uint64_t,
                                  uint64_t *, size_t) = {
     kelubashi1_propagate, plain_propagate, newton_propagate, empty_propagate
 };
 
+static size_t order[ORBITS];     /* by trial points */
+
+static uint64_t points_of(size_t i)
+{
+    uint64_t answer[15];
+
+    plain_propagate(ORBIT(i), answer, 15);
+    return answer[1];
+}
+
+static int by_points(const void *a, const void *b)
+{
+    uint64_t p = points_of(*(const size_t *)a), q = points_of(*(const size_t *)b);
+
+    return (p > q) - (p < q);
+}
+
+/* Four times over a quarter, so that each pass has as many calls. */
+static void pass_quarter(const size_t *quarter)
+{
+    uint64_t answer[15];
+    size_t i;
+
+    for (i = 0; i < ORBITS; i++)
+        kelubashi1_propagate(ORBIT(quarter[i % QUARTER]), answer, 15);
+}
+
 static void pass(size_t column)
 {
     uint64_t answer[15];
     size_t i;
 
+    if (column >= FEWEST) {
+        pass_quarter(order + (column - FEWEST) * QUARTER);
+        return;
+    }
     for (i = 0; i < ORBITS; i++)
         calls[column](ORBIT(i), answer, 15);
 }
@@ -33,6 +69,20 @@ static int newton_agrees(size_t i, uint64_t psi)
 
     newton_propagate(ORBIT(i), answer, 15);
     return fabs(kelubashi_figure(answer[14]) / kelubashi_figure(psi) - 1) < 1e-9;
+}
+
+static void check_quarters(void)
+{
+    uint64_t points;
+    size_t i, k;
+
+    printf("propagate, a quarter of the orbits each by trial points a call:");
+    for (k = 0; k < 4; k++) {
+        points = 0;
+        for (i = 0; i < QUARTER; i++)
+            points += points_of(order[k * QUARTER + i]);
+        printf(" %s %.1f%s", columns[FEWEST + k], (double)points / QUARTER, k < 3 ? "," : "\n");
+    }
 }
 
 static void check(void)
@@ -51,12 +101,17 @@ static void check(void)
     }
     printf("propagate: %d orbits, %.1f trial points a call; library and plain C answer alike, Newton ends there for %d\n",
            ORBITS, (double)points / ORBITS, agree);
+    check_quarters();
 }
 
 int main(int count, char **words)
 {
     const struct row row = { columns, ORBITS, pass, check };
+    size_t i;
 
     orbits_fill();
+    for (i = 0; i < ORBITS; i++)
+        order[i] = i;
+    qsort(order, ORBITS, sizeof order[0], by_points);
     return row_run(&row, count, words);
 }

@@ -1,5 +1,5 @@
 #!/bin/sh
-# Prints the table of the rows given (root, propagate, partials), whose programs are in build/bench/.
+# Prints the table of the rows given (root, propagate, partials, results), whose programs are in build/bench/, and how two of them grow.
 #
 # Instructions are counted under the emulator on every machine, so that all count alike. Time is measured
 # on x86-64 alone: under an emulator it says nothing of a station's machine.
@@ -73,9 +73,13 @@ choose() {
 
 # ROW COLUMN: instructions of all calls of a pass; what is the same in two runs, the start, falls out.
 instructions_of() {
-    once=$("$count" "$build/bench/$1" "$2" "$passes")
-    twice=$("$count" "$build/bench/$1" "$2" $((2 * passes)))
-    echo $(((twice - once) / passes))
+    times=$passes
+    if [ "$1" = results ]; then
+        times=1     # a pass is a whole file
+    fi
+    once=$("$count" "$build/bench/$1" "$2" "$times")
+    twice=$("$count" "$build/bench/$1" "$2" $((2 * times)))
+    echo $(((twice - once) / times))
 }
 
 nanoseconds_of() {
@@ -116,12 +120,30 @@ table() {
     done
 }
 
+# MEASURE TITLE ROW: the library's columns of a row for less work and for more.
+growth() {
+    case $3 in
+    propagate) what='orbits by trial points' cases='fewest fewer more most' ;;
+    results) what='requests in a file' cases='1 10 100 1000 library' ;;
+    *) return 0 ;;
+    esac
+    echo
+    echo "| $what | $2 |"
+    echo '|---:|---:|'
+    for case in $cases; do
+        echo "| $case | $(per_call "$1" "$3" "$case") |" | sed 's/^| library |/| 1500 |/'
+    done
+}
+
 choose
 for row in "$@"; do
     [ -x "$build/bench/$row" ] || fail "there is no build/bench/$row: make bench builds it"
     run "$build/bench/$row" check
 done
 table instructions_of 'instructions per call' "$@"
+for row in "$@"; do
+    growth instructions_of 'instructions per call' "$row"
+done
 if [ "$machine" = x86_64 ]; then
     table nanoseconds_of 'nanoseconds per call' "$@"
 fi
