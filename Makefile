@@ -2,6 +2,7 @@
 # make state    one state of an orbit through the C library: make state STATE='MU X Y Z VX VY VZ TAU'
 # make check    all that must hold; ends in rt ci, whose last line is 'N passed, 0 failed'
 # make test     the C tests alone
+# make wrong    more wrong programs that the prover has to refuse, beside those of the gate
 # make fuzz     the library against the second program, as long as told: make fuzz N=1000000 SEED=7
 # make bench    instructions per call (and time on x86-64) beside plain C of the same rules: see bench/README.md
 # make program  build/propagate, the program, for x86-64, proved
@@ -28,7 +29,7 @@ BESIDE = bench/plain.c bench/plain_root.c bench/plain_search.c bench/plain_resul
 
 # One step at a time, in the order written: what is cheap to find wrong comes before what takes minutes.
 .NOTPARALLEL:
-.PHONY: run state check test fuzz bench program lib install install-files clean
+.PHONY: run state check test wrong fuzz bench program lib install install-files clean
 .PHONY: kit layout machine header edition readme selfcheck installed tried
 
 # What make run shows.
@@ -46,6 +47,9 @@ check: layout test
 
 test: machine header edition readme selfcheck installed build/host/propagate tried $(TESTS)
 	@for test in $(TESTS); do $(X86) run "$$test" || exit 1; done
+
+wrong: kit
+	@sh tests/wrong.sh
 
 fuzz: machine $(FUZZ)
 	@echo 'fuzz: $(N) inputs of seed $(SEED) each, from number $(FIRST) on, to: $(FUZZ)'
