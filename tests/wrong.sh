@@ -7,6 +7,7 @@ room=$(mktemp -d)
 trap 'rm -rf "$room"' EXIT
 
 cp -R crates.txt crates "$room"
+[ ! -d target ] || cp -R target "$room"     # what is proved already need not be proved again
 rm -f "$room"/crates/*/must-fail/*.edit
 for crate in tests/wrong/*/; do
     mkdir -p "$room/crates/$(basename "$crate")/must-fail"
