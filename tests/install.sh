@@ -6,7 +6,7 @@ cd "$(dirname "$0")/.."
 export LC_ALL=C     # lists are sorted and compared below
 room=$(mktemp -d)
 trap 'rm -rf "$room"' EXIT
-prefix=/opt/station
+prefix=/station
 root=$room/root
 
 fail() {

@@ -1,29 +1,16 @@
 // The C face: what control programs call. Every number crosses as its 64-bit word and every run as a pointer and a count, so no header can shift a
 // field; the names carry the interface's edition, so a header of another edition does not link.
 ghost use mathlib.Core.Path.{_≡_};
-ghost use lib.ListN.{length};
-ghost use Rattle.kelubashi.specs.Face.{returned, written, orbitWords, lentBehind, readingWords, writingWords, outcomeWords, firstOf};
-ghost use Rattle.files.specs.Reader.{readingOf};
-ghost use Rattle.files.specs.Writer.{writingOf, roomOf};
-ghost use Rattle.runs.specs.Words.{put};
-ghost use Rattle.results.specs.Results.{outcomeOf, resultFile};
-use files::reader::Reading;
-use files::writer::Writing;
+ghost use mathlib.Core.List.{[], _∷_};
 ghost use Rattle.bits.specs.Root.{rootRefusalOf, rootWordOf};
 ghost use Rattle.states.specs.Call.{answerWords, propagateOf, partialsOf, lentOf};
-ghost use mathlib.Core.List.{[], _∷_};
+ghost use Rattle.runs.specs.Words.{put};
+ghost use Rattle.files.specs.Reader.{readingOf};
+ghost use Rattle.files.specs.Writer.{writingOf, roomOf};
+ghost use Rattle.results.specs.Results.{outcomeOf, resultFile};
+ghost use Rattle.kelubashi.specs.Face.{returned, written, orbitWords, lentBehind, readingWords, writingWords, outcomeWords, firstOf};
 
-// Writes an answer's words to a run of their length.
-fn put(words: &[u64], run: &mut [u64])
-    requires { ⌜ length (now run) ≡ length (now words) ⌝ }
-    ensures { λ _. ⌜ now (run .exit) ≡ now (words .entry) ⌝ }
-{
-    let mut k = 0usize;
-    while k < words.len() {
-        run[k] = words[k];
-        k += 1;
-    }
-}
+mod answers;
 
 // The square root of the double of a word, to an answer run of one word.
 #[no_mangle]
@@ -58,7 +45,7 @@ pub extern "C" fn kelubashi1_propagate(
     }
     let a = states::call::propagate([mu, x, y, z, vx, vy, vz, tau]);
     let words = states::answer::words_of(a);
-    put(&words, answer);
+    answers::put(&words, answer);
     a.refusal
 }
 
@@ -83,27 +70,8 @@ pub extern "C" fn kelubashi1_partials(
     }
     let a = states::call::propagate_with_partials([mu, x, y, z, vx, vy, vz, tau], run);
     let words = states::answer::words_of(a);
-    put(&words, answer);
+    answers::put(&words, answer);
     a.refusal
-}
-
-// The eight words of what the reader answers: number, place, then the place and the count of centres, states and requests.
-fn reading_words(reading: Reading) -> [u64; 8]
-    ensures { λ r. ⌜ r ≡ readingWords reading ⌝ }
-{
-    match reading {
-        Reading::Sections(places) => [
-            0,
-            0,
-            places.centres.place as u64,
-            places.centres.count as u64,
-            places.states.place as u64,
-            places.states.count as u64,
-            places.requests.place as u64,
-            places.requests.count as u64,
-        ],
-        Reading::Refused { number, place } => [number, place as u64, 0, 0, 0, 0, 0, 0],
-    }
 }
 
 // Where the sections of an element file stand, to an answer run of eight words.
@@ -114,19 +82,9 @@ pub extern "C" fn kelubashi1_read(file: &[u8], answer: &mut [u64]) -> u64
     if answer.len() != 8 {
         return 60;
     }
-    let words = reading_words(files::reader::read_file(file));
-    put(&words, answer);
+    let words = answers::reading_words(files::reader::read_file(file));
+    answers::put(&words, answer);
     words[0]
-}
-
-// The two words of what the writer answers: a number with its place, or 0 with the length.
-fn writing_words(writing: Writing) -> [u64; 2]
-    ensures { λ r. ⌜ r ≡ writingWords writing ⌝ }
-{
-    match writing {
-        Writing::Length(length) => [0, length as u64],
-        Writing::Refused { number, place } => [number, place as u64],
-    }
 }
 
 // Three sections as an element file, to a room, and an answer run of two words.
@@ -143,8 +101,8 @@ pub extern "C" fn kelubashi1_write(
     if answer.len() != 2 {
         return 60;
     }
-    let words = writing_words(files::writer::write_file(centres, states, requests, room));
-    put(&words, answer);
+    let words = answers::writing_words(files::writer::write_file(centres, states, requests, room));
+    answers::put(&words, answer);
     words[0]
 }
 
@@ -157,6 +115,6 @@ pub extern "C" fn kelubashi1_results(file: &[u8], room: &mut [u8], answer: &mut 
         return 60;
     }
     let outcome = results::write_results(file, room);
-    put(&[outcome.number, outcome.length as u64], answer);
+    answers::put(&[outcome.number, outcome.length as u64], answer);
     outcome.number
 }

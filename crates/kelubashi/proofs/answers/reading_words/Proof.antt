@@ -1,8 +1,8 @@
 -- Each arm is the definition at what the reader answered.
 use borrow.Author.Needs.{needs}
 use Rattle.kelubashi.specs.Face.{readingWords}
-use Rattle.kelubashi.proofs.reading_words.Statement.{statement}
-use Rattle.kelubashi.proofs.reading_words.Tie as tie
+use Rattle.kelubashi.proofs.answers.reading_words.Statement.{statement}
+use Rattle.kelubashi.proofs.answers.reading_words.Tie as tie
 
 enum-known-reading : tie.Need-enum-known-reading
 enum-known-reading c = search needs

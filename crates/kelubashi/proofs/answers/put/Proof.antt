@@ -7,8 +7,8 @@ use native.Mathlib.Omega.{arith}
 use borrow.Author.Needs.{needs}
 use lib.ListN.{length, getD, take, set, length-set}
 use lib.Seq.{take-suc, take-suc-set, take-all}
-use Rattle.kelubashi.proofs.put.Statement.{statement}
-use Rattle.kelubashi.proofs.put.Tie as tie
+use Rattle.kelubashi.proofs.answers.put.Statement.{statement}
+use Rattle.kelubashi.proofs.answers.put.Tie as tie
 
 more : (run words : List ℕ) (k : ℕ) → k < length run → k < length words → take k run ≡ take k words → take (k + 1) (set run k (getD words k 0)) ≡ take (k + 1) words
 more run words k h l e =

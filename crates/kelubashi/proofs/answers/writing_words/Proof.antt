@@ -1,8 +1,8 @@
 -- Each arm is the definition at what the writer answered.
 use borrow.Author.Needs.{needs}
 use Rattle.kelubashi.specs.Face.{writingWords}
-use Rattle.kelubashi.proofs.writing_words.Statement.{statement}
-use Rattle.kelubashi.proofs.writing_words.Tie as tie
+use Rattle.kelubashi.proofs.answers.writing_words.Statement.{statement}
+use Rattle.kelubashi.proofs.answers.writing_words.Tie as tie
 
 enum-known-writing : tie.Need-enum-known-writing
 enum-known-writing c = search needs
