@@ -12,7 +12,7 @@
 
 X86 = sh tests/machine.sh
 STRICT = -std=c99 -Wall -Wextra -pedantic -Werror -O2 -ffp-contract=off
-TESTS = build/tests/root build/tests/cases build/tests/case_files build/tests/second/selftest $(COMPARISONS)
+TESTS = $(COMPARISONS) build/tests/second/selftest build/tests/root build/tests/cases build/tests/case_files
 
 # The library against the second program: states and partials, then files.
 COMPARISONS = build/tests/propagate build/tests/files
@@ -45,8 +45,9 @@ state: build/host/propagate
 check: layout test
 	@rt ci
 
-test: machine header edition readme selfcheck installed build/host/propagate tried $(TESTS)
-	@for test in $(TESTS); do $(X86) run "$$test" || exit 1; done
+# The program before the library, since rt then proves side by side what both rest on.
+test: machine header program edition readme selfcheck installed build/host/propagate tried $(TESTS)
+	@sh tests/run.sh $(TESTS)
 
 wrong: kit
 	@sh tests/wrong.sh
