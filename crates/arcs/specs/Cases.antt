@@ -3,7 +3,7 @@ use mathlib.Core.Path.{_≡_, refl}
 use Prim.Native.Nat.{ℕ}
 use lib.Ieee.{Float, binary64, add, sub, mul, div, neg, lt, eq, ofBits}
 use Rattle.series.specs.Series.{beyondOne, reducedFrom, nested, c4Of, c5Of, atReduced, coefficientsOf, sumsOf}
-use Rattle.search.specs.Residual.{radiusOf}
+use Rattle.points.specs.Residual.{radiusOf}
 use Rattle.arcs.specs.Finite.{allFinite, anyZero}
 use Rattle.arcs.specs.Results.{factorsOf, endOf, arcOf, accelerationOf, resultsOf, divisorsOf, figuresOf, endedOf}
 use Rattle.arcs.specs.declared.figures.Vector.{Vector}

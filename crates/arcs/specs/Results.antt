@@ -7,8 +7,8 @@ use Rattle.series.specs.Series.{coefficientsOf, sumsOf}
 use Rattle.series.specs.declared.figures.Anomaly.{Anomaly}
 use Rattle.series.specs.declared.figures.Seconds.{Seconds}
 use Rattle.series.specs.declared.figures.Sums.{Sums}
-use Rattle.search.specs.Residual.{radiusOf}
-use Rattle.search.specs.declared.figures.Initial.{Initial}
+use Rattle.points.specs.Residual.{radiusOf}
+use Rattle.points.specs.declared.figures.Initial.{Initial}
 use Rattle.arcs.specs.Finite.{allFinite, anyZero}
 use Rattle.arcs.specs.declared.figures.Vector.{Vector}
 use Rattle.arcs.specs.declared.figures.State.{State}

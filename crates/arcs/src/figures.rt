@@ -1,5 +1,5 @@
 // The quantities of an arc. Lengths are in km, times in s.
-use search::figures::Initial;
+use points::figures::Initial;
 use series::Anomaly;
 use series::Coefficients;
 use series::Seconds;

@@ -6,9 +6,9 @@ use lib.Ieee.{binary64, add, sub, mul, div, neg, lt, eq, ne, ofBits, toBits}
 use Rattle.bits.specs.Root.{rootRefusalOf, rootWordOf, rootOf}
 use Rattle.series.specs.declared.figures.Coefficients.{Coefficients}
 use Rattle.series.specs.Series.{beyondOne, reducedFrom, nested, c4Of, c5Of, atReduced, doublings, quotientsOf, coefficientsOf, sumsOf}
-use Rattle.search.specs.Residual.{timeErrorOf, radiusOf}
-use Rattle.search.specs.Trial.{anomalyAt, sortOf, unevaluated, evaluatedAt, trialAt}
-use Rattle.search.specs.History.{onward, outward, halving, round, inward, history, counted}
+use Rattle.points.specs.Residual.{timeErrorOf, radiusOf}
+use Rattle.points.specs.Trial.{anomalyAt, sortOf, unevaluated, evaluatedAt, trialAt}
+use Rattle.history.specs.History.{onward, outward, halving, round, inward, history, counted}
 use Rattle.search.specs.Search.{searchOf}
 use Rattle.arcs.specs.Finite.{allFinite, anyZero}
 use Rattle.arcs.specs.Results.{factorsOf, endOf, arcOf, accelerationOf, resultsOf, divisorsOf, figuresOf, endedOf}

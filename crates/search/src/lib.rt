@@ -1,23 +1,21 @@
-// Layer 3: the anomaly search (document 01, "The search").
+// Layer 3: the anomaly search (document 01, "The search"), by its rule (`history`) at its points (`points`) and its proposals (`proposals`).
 ghost use mathlib.Core.Path.{_≡_};
 ghost use Prim.Native.Nat.{_<_, _^_};
 ghost use lib.Ieee.{neg};
-ghost use Rattle.search.specs.Trial.{trialAt};
-ghost use Rattle.search.specs.History.{counted, outwardStep, stepped};
+ghost use Rattle.points.specs.Trial.{trialAt};
+ghost use Rattle.history.specs.History.{counted, outwardStep, stepped};
 ghost use Rattle.search.specs.Search.{outwardAt, inwardAt, answerOf, searchOf};
 use figures::Answer;
-use figures::Initial;
-use pair::Next;
-use pair::Pair;
-use pair::Step;
+use history::pair;
+use history::pair::Next;
+use history::pair::Pair;
+use history::pair::Step;
+use points::figures::Initial;
+use points::trial;
 use series::Anomaly;
 use series::Seconds;
 
 pub mod figures;
-mod pair;
-mod proposal;
-pub mod residual;
-mod trial;
 mod turn;
 
 // The anomaly of the interval tau, with the trial points used, searched outward from the place of |h|, H of document 01.

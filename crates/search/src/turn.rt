@@ -4,15 +4,15 @@ ghost use mathlib.Core.Bool.{true};
 ghost use Prim.Native.Nat.{_<_};
 ghost use lib.Dec.{eqb};
 ghost use Rattle.bits.specs.Choice.{pick};
-ghost use Rattle.search.specs.Trial.{trialAt};
-ghost use Rattle.search.specs.History.{attempt, isWide, halfway, counted};
-ghost use Rattle.search.specs.Proposals.{proposed};
-use super::figures::Initial;
-use super::pair;
-use super::pair::Next;
-use super::pair::Pair;
-use super::proposal;
-use super::trial;
+ghost use Rattle.points.specs.Trial.{trialAt};
+ghost use Rattle.history.specs.History.{attempt, isWide, halfway, counted};
+ghost use Rattle.proposals.specs.Proposals.{proposed};
+use history::pair;
+use history::pair::Next;
+use history::pair::Pair;
+use points::figures::Initial;
+use points::trial;
+use proposals::proposal;
 use series::Seconds;
 
 // The place to propose, or 0: after a turn that tried a proposed place, the halving place is next.
@@ -20,7 +20,7 @@ pub fn offer(initial: Initial, tau: Seconds, s: Pair, before: u64) -> u64
     ensures { λ r. ⌜ r ≡ pick (eqb before 0) (proposed initial tau s) 0 ⌝ }
 {
     if before == 0 {
-        return proposal::proposal(initial, tau, s);
+        return proposal(initial, tau, s);
     }
     0
 }

@@ -10,7 +10,7 @@ use lib.Dec.{eqb}
 use lib.ListN.{length}
 use Rattle.bits.specs.Choice.{pick}
 use Rattle.search.specs.Search.{searchOf}
-use Rattle.search.specs.Trial.{anomalyAt}
+use Rattle.points.specs.Trial.{anomalyAt}
 use Rattle.search.specs.declared.figures.Answer.{Answer as Found}
 use Rattle.search.proofs.Instance.{demand3}
 use Rattle.arcs.specs.Results.{arcOf, resultsOf, endedOf}

@@ -17,7 +17,7 @@ use Rattle.bits.specs.Words.{infinity}
 use Rattle.bits.specs.Root.{nearestWord, rootWordOf, rootOf}
 use Rattle.bits.proofs.Doubles.{word-positive}
 use Rattle.bits.proofs.Exists.{nearest-word}
-use Rattle.search.specs.declared.figures.Initial.{Initial}
+use Rattle.points.specs.declared.figures.Initial.{Initial}
 use Rattle.arcs.specs.Finite.{allFinite}
 use Rattle.arcs.specs.declared.figures.State.{State}
 use Rattle.arcs.proofs.FiniteLaws.{each-finite}

@@ -8,7 +8,7 @@ use Rattle.bits.specs.Choice.{pick}
 use Rattle.bits.specs.Arithmetic.{n0, isFinite}
 use Rattle.series.specs.declared.figures.Seconds.{Seconds}
 use Rattle.search.specs.Search.{searchOf}
-use Rattle.search.specs.declared.figures.Initial.{Initial}
+use Rattle.points.specs.declared.figures.Initial.{Initial}
 use Rattle.search.specs.declared.figures.Answer.{Answer as Found}
 use Rattle.search.specs.declared.figures.Answer.the-variants as found
 use Rattle.arcs.specs.Results.{arcOf, figuresOf, endedOf}

@@ -5,7 +5,7 @@ use mathlib.Core.List.{List, [], _∷_}
 use Prim.Native.Nat.{ℕ}
 use lib.Ieee.{binary64, add, sub, mul, div, eq, ofBits, toBits}
 use Rattle.bits.specs.Root.{rootWordOf, rootOf}
-use Rattle.search.specs.declared.figures.Initial.{Initial}
+use Rattle.points.specs.declared.figures.Initial.{Initial}
 use Rattle.arcs.specs.Finite.{allFinite}
 use Rattle.states.specs.Words.{firstNotFinite, orbit, readOf}
 use Rattle.states.specs.Initial.{dot, begunOf, firstStepOf}

@@ -7,9 +7,10 @@ use Prim.Native.Nat.{ℕ, _≤_}
 use lib.Ieee.{eq}
 use lib.ListN.{length}
 use Rattle.bits.specs.Arithmetic.{n0, isFinite}
-use Rattle.search.specs.Trial.{placeOf, anomalyAt, trialAt}
-use Rattle.search.specs.Demand.{IsAnomaly, Findable, triedAt}
-use Rattle.search.specs.declared.figures.Initial.{Initial}
+use Rattle.points.specs.Trial.{placeOf, anomalyAt, trialAt}
+use Rattle.history.specs.Demand.{Findable}
+use Rattle.search.specs.Demand.{IsAnomaly, triedAt}
+use Rattle.points.specs.declared.figures.Initial.{Initial}
 use Rattle.arcs.specs.Results.{arcOf, resultsOf}
 use Rattle.states.specs.Words.{readOf}
 use Rattle.states.specs.Initial.{begunOf, firstStepOf}

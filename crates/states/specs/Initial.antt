@@ -8,7 +8,7 @@ use Rattle.bits.specs.Choice.{pick}
 use Rattle.bits.specs.Arithmetic.{_⊕_, _⊖_, _⊗_, _⊘_, n0, n1, n2, magnitude}
 use Rattle.bits.specs.Root.{rootOf}
 use Rattle.series.specs.declared.figures.Seconds.{Seconds}
-use Rattle.search.specs.declared.figures.Initial.{Initial}
+use Rattle.points.specs.declared.figures.Initial.{Initial}
 use Rattle.arcs.specs.Finite.{allFinite}
 use Rattle.arcs.specs.declared.figures.Vector.{Vector}
 use Rattle.arcs.specs.declared.figures.State.{State}

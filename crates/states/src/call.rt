@@ -17,7 +17,7 @@ use arcs::figures::State;
 use arcs::figures::Vector;
 use arcs::results::arc_at;
 use arcs::results::ended;
-use search::figures::Initial;
+use points::figures::Initial;
 use series::Anomaly;
 use series::Seconds;
 

@@ -2,7 +2,7 @@
 use arcs::figures::Arc;
 use arcs::figures::Results;
 use arcs::figures::State;
-use search::figures::Initial;
+use points::figures::Initial;
 use series::Seconds;
 
 // The eight doubles that come in: mu (km^3/s^2), the state at the start, and the interval.

@@ -7,7 +7,7 @@ use arcs::figures::State;
 use arcs::figures::Vector;
 use arcs::finite::all_finite;
 use bits::words::SIGN;
-use search::figures::Initial;
+use points::figures::Initial;
 use series::Seconds;
 
 // 2^-20.

@@ -8,14 +8,14 @@ use borrow.Author.Needs.{needs}
 use lib.Ieee.{Float, neg, eq}
 use Rattle.bits.specs.Arithmetic.{n0}
 use Rattle.series.specs.declared.figures.Seconds.{Seconds}
-use Rattle.search.specs.declared.figures.Initial.{Initial}
-use Rattle.search.specs.declared.pair.Next.{Next}
-use Rattle.search.specs.Trial.{placeOf, trialAt}
-use Rattle.search.specs.Proposals.{proposed, threeProposals}
-use Rattle.search.specs.History.{outward, inward, history, counted}
+use Rattle.points.specs.declared.figures.Initial.{Initial}
+use Rattle.history.specs.declared.pair.Next.{Next}
+use Rattle.points.specs.Trial.{placeOf, trialAt}
+use Rattle.proposals.specs.Proposals.{proposed, threeProposals}
+use Rattle.history.specs.History.{outward, inward, history, counted}
 use Rattle.search.specs.Search.{outwardAt, inwardAt, historyAt, answerOf, searchOf}
-use Rattle.search.proofs.Counts.{outward-points}
-use Rattle.search.proofs.Turns.{after, followed, between-used, handed-on, inward-same}
+use Rattle.history.proofs.Counts.{outward-points}
+use Rattle.history.proofs.Turns.{after, followed, between-used, handed-on, inward-same}
 use Rattle.search.proofs.search.Statement.{statement}
 use Rattle.search.proofs.search.Tie as tie
 

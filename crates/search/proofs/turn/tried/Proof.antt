@@ -1,7 +1,9 @@
 -- The pair moved by what is tried. The place is above 0: the offered one isn't 0, and the halving place of a wide pair lies above its short end.
+use mathlib.Core.Path.{_∙_}
 use borrow.Author.Needs.{needs}
-use Rattle.search.specs.History.{counted}
-use Rattle.search.proofs.Turns.{place-above}
+use Rattle.points.proofs.Points.{above-zero}
+use Rattle.history.specs.History.{counted}
+use Rattle.history.proofs.Turns.{place-above}
 use Rattle.search.proofs.turn.tried.Statement.{statement}
 use Rattle.search.proofs.turn.tried.Tie as tie
 
@@ -9,7 +11,7 @@ place-of-requires : tie.Need-place-of-requires
 place-of-requires c κs = c .pre .0
 
 try-inner-requires : tie.Need-try-inner-requires
-try-inner-requires c κs = let a = c .before .args in rw (c .place-of .ensures) (place-above (a .s) (a .offered) (c .before .pre .0))
+try-inner-requires c κs = search needs
 
 add-moved-by : tie.Need-add-moved-by
 add-moved-by c = search needs
@@ -19,7 +21,11 @@ moved-by-requires c κs = search needs
 
 returns : tie.Need-returns
 unfolding counted
-returns c = simp (c .before .try-inner .ensures, c .before .before .place-of .ensures) at (c .moved-by .ensures)
+returns c =
+    let a = c .before .before .before .args in
+    let p = c .before .before .place-of in
+    let above = place-above (a .s) (a .offered) (c .before .before .before .pre .0) in
+    simp (c .before .try-inner .ensures ∙ above-zero (a .initial) (a .tau) (p .result) (rw (p .ensures) above), p .ensures) at (c .moved-by .ensures)
 
 pub tried-spec : {M : Type 1} → statement M
 tried-spec = tie.close (tie.spec place-of-requires try-inner-requires add-moved-by moved-by-requires returns)

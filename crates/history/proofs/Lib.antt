@@ -1,0 +1,8 @@
+-- The laws of the history, for any trial function and any proposal (Counts to Refusals); what the code's proofs cite (Turns); and what each public function
+-- leaves open.
+pub mod Counts
+pub mod Rounds
+pub mod Reach
+pub mod Refusals
+pub mod Turns
+pub mod OneAnswers

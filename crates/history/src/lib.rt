@@ -1,0 +1,2 @@
+// Layer 3, its rule: the pair of places and what a tried point makes of it, over any trial points and any proposals (document 01, "The search").
+pub mod pair;

@@ -1,0 +1,3 @@
+-- Layer 3, its points. Read the files in this order.
+pub mod Residual
+pub mod Trial

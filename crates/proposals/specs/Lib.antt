@@ -1,0 +1,2 @@
+-- Layer 3, its proposals.
+pub mod Proposals
