@@ -1,8 +1,8 @@
 -- The code is the definition written out, with |τ| from its function.
 use borrow.Author.Needs.{needs}
-use Rattle.states.specs.Initial.{firstStepOf}
-use Rattle.states.proofs.initial.first_step.Statement.{statement}
-use Rattle.states.proofs.initial.first_step.Tie as tie
+use Rattle.orbits.specs.Initial.{firstStepOf}
+use Rattle.orbits.proofs.initial.first_step.Statement.{statement}
+use Rattle.orbits.proofs.initial.first_step.Tie as tie
 
 magnitude-of-requires : tie.Need-magnitude-of-requires
 magnitude-of-requires c κs = search needs

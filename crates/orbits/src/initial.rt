@@ -1,7 +1,7 @@
 // The initial figures of a state, and the first step of the search.
 ghost use mathlib.Core.Path.{_≡_};
 ghost use Rattle.bits.specs.Arithmetic.{magnitude};
-ghost use Rattle.states.specs.Initial.{dot, begunOf, firstStepOf};
+ghost use Rattle.orbits.specs.Initial.{dot, begunOf, firstStepOf};
 use super::figures::Begun;
 use arcs::figures::State;
 use arcs::figures::Vector;

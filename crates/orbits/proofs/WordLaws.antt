@@ -11,7 +11,7 @@ use lib.Ieee.Bits.{nanBits-is}
 use Rattle.bits.specs.Arithmetic.{isFinite}
 use Rattle.bits.specs.Choice.{pick}
 use Rattle.bits.proofs.Doubles.{finite-no-nan}
-use Rattle.states.specs.Words.{firstNotFinite}
+use Rattle.orbits.specs.Words.{firstNotFinite}
 
 -- What `f64::from_bits` asks.
 pub finite-word : (w : ℕ) → isFinite (ofBits binary64 w) ≡ true → T (not (nanBits binary64 w))

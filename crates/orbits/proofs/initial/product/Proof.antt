@@ -1,8 +1,8 @@
 -- The code is the definition written out.
 use mathlib.Core.Path.{refl}
-use Rattle.states.specs.Initial.{dot}
-use Rattle.states.proofs.initial.product.Statement.{statement}
-use Rattle.states.proofs.initial.product.Tie as tie
+use Rattle.orbits.specs.Initial.{dot}
+use Rattle.orbits.proofs.initial.product.Statement.{statement}
+use Rattle.orbits.proofs.initial.product.Tie as tie
 
 returns : tie.Need-returns
 unfolding dot

@@ -10,8 +10,8 @@ use lib.Ieee.Bits.{ofBits-toBits, toBits-lt, nanBits-is}
 use lib.Ieee.Compare.{differs-from-itself, nan-differs}
 use Rattle.bits.specs.Arithmetic.{magnitude}
 use Rattle.bits.proofs.Doubles.{no-nan}
-use Rattle.states.proofs.initial.magnitude_of.Statement.{statement}
-use Rattle.states.proofs.initial.magnitude_of.Tie as tie
+use Rattle.orbits.proofs.initial.magnitude_of.Statement.{statement}
+use Rattle.orbits.proofs.initial.magnitude_of.Tie as tie
 
 word : Float → ℕ
 word = toBits binary64

@@ -9,11 +9,11 @@ use native.Mathlib.Omega.{arith}
 use lib.Dec.{T}
 use lib.Ieee.{binary64, nanBits}
 use lib.ListN.{length, getD}
-use Rattle.states.specs.Words.{firstNotFinite, orbit, readOf}
-use Rattle.states.specs.declared.figures.Read.the-variants as read
-use Rattle.states.proofs.WordLaws.{finite-word, each-word-finite}
-use Rattle.states.proofs.words.orbit_of.Statement.{statement}
-use Rattle.states.proofs.words.orbit_of.Tie as tie
+use Rattle.orbits.specs.Words.{firstNotFinite, orbit, readOf}
+use Rattle.orbits.specs.declared.figures.Read.the-variants as read
+use Rattle.orbits.proofs.WordLaws.{finite-word, each-word-finite}
+use Rattle.orbits.proofs.words.orbit_of.Statement.{statement}
+use Rattle.orbits.proofs.words.orbit_of.Tie as tie
 
 module _ (words : List ℕ) (first : ℕ) (e : first ≡ firstNotFinite words) where
   refused : (first ≡ 8 → ⊥) → read.NotFinite first ≡ readOf words

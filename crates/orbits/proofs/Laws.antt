@@ -21,11 +21,11 @@ use Rattle.search.specs.declared.figures.Initial.{Initial}
 use Rattle.arcs.specs.Finite.{allFinite}
 use Rattle.arcs.specs.declared.figures.State.{State}
 use Rattle.arcs.proofs.FiniteLaws.{each-finite}
-use Rattle.states.specs.Words.{firstNotFinite, number, orbit, readOf, readRefusal}
-use Rattle.states.specs.Initial.{dot, begunOf}
-use Rattle.states.specs.declared.figures.Begun.the-variants as begun
-use Rattle.states.specs.declared.figures.Read.the-variants as read
-use Rattle.states.proofs.WordLaws.{each-word-finite}
+use Rattle.orbits.specs.Words.{firstNotFinite, number, orbit, readOf, readRefusal}
+use Rattle.orbits.specs.Initial.{dot, begunOf}
+use Rattle.orbits.specs.declared.figures.Begun.the-variants as begun
+use Rattle.orbits.specs.declared.figures.Read.the-variants as read
+use Rattle.orbits.proofs.WordLaws.{each-word-finite}
 
 -- ---- Refusal 2 is given exactly where one of the eight is NaN or infinite.
 module _ (words : List ℕ) (eight : length words ≡ 8) where

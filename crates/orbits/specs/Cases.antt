@@ -7,10 +7,10 @@ use lib.Ieee.{binary64, add, sub, mul, div, eq, ofBits, toBits}
 use Rattle.bits.specs.Root.{rootWordOf, rootOf}
 use Rattle.search.specs.declared.figures.Initial.{Initial}
 use Rattle.arcs.specs.Finite.{allFinite}
-use Rattle.states.specs.Words.{firstNotFinite, orbit, readOf}
-use Rattle.states.specs.Initial.{dot, begunOf, firstStepOf}
-use Rattle.states.specs.declared.figures.Read.the-variants as read
-use Rattle.states.specs.declared.figures.Begun.the-variants as begun
+use Rattle.orbits.specs.Words.{firstNotFinite, orbit, readOf}
+use Rattle.orbits.specs.Initial.{dot, begunOf, firstStepOf}
+use Rattle.orbits.specs.declared.figures.Read.the-variants as read
+use Rattle.orbits.specs.declared.figures.Begun.the-variants as begun
 
 -- The first word that is not finite is named: here the velocity's y, an infinity.
 named : readOf (0 ∷ 0 ∷ 0 ∷ 0 ∷ 0 ∷ 0x7ff0000000000000 ∷ 0 ∷ 0xfff8000000000000 ∷ []) ≡ read.NotFinite 5

@@ -8,11 +8,11 @@ use Rattle.bits.specs.Choice.{pick}
 use Rattle.bits.specs.Arithmetic.{_⊖_, _⊗_, _⊘_, n0, n2}
 use Rattle.bits.specs.Root.{rootOf}
 use Rattle.arcs.specs.Finite.{allFinite}
-use Rattle.states.specs.Initial.{dot, begunFrom, begunOf}
+use Rattle.orbits.specs.Initial.{dot, begunFrom, begunOf}
 use Rattle.arcs.specs.declared.figures.State.{State}
-use Rattle.states.specs.declared.figures.Begun.the-variants.{Initial, Refused}
-use Rattle.states.proofs.initial.initial_of.Statement.{statement}
-use Rattle.states.proofs.initial.initial_of.Tie as tie
+use Rattle.orbits.specs.declared.figures.Begun.the-variants.{Initial, Refused}
+use Rattle.orbits.proofs.initial.initial_of.Statement.{statement}
+use Rattle.orbits.proofs.initial.initial_of.Tie as tie
 
 at-zero : (mu sum : Float) (s : State) → sum ≡ dot (s .position) (s .position) → eq sum n0 ≡ true → Refused 3 ≡ begunOf mu s
 unfolding begunOf

@@ -11,9 +11,9 @@ use lib.Seq.{drop-cons}
 use lib.Ieee.{binary64, ofBits}
 use Rattle.bits.specs.Arithmetic.{isFinite}
 use Rattle.bits.specs.Choice.{pick}
-use Rattle.states.specs.Words.{firstNotFinite}
-use Rattle.states.proofs.words.first_not_finite.Statement.{statement}
-use Rattle.states.proofs.words.first_not_finite.Tie as tie
+use Rattle.orbits.specs.Words.{firstNotFinite}
+use Rattle.orbits.proofs.words.first_not_finite.Statement.{statement}
+use Rattle.orbits.proofs.words.first_not_finite.Tie as tie
 
 abbrev Inv-loop : tie.InvT-loop
 Inv-loop words k₀ k = (k ≤ 8) × (k + firstNotFinite (drop k words) ≡ firstNotFinite words)

@@ -13,8 +13,8 @@ use Rattle.bits.specs.Words.{fieldOf, kindOf}
 use Rattle.bits.specs.declared.words.Kind.{Kind}
 use Rattle.bits.specs.declared.words.Kind.the-variants.{ZeroOrSubnormal, Normal, NotFinite}
 use Rattle.bits.proofs.Doubles.{finite-by-field}
-use Rattle.states.proofs.words.is_finite_word.Statement.{statement}
-use Rattle.states.proofs.words.is_finite_word.Tie as tie
+use Rattle.orbits.proofs.words.is_finite_word.Statement.{statement}
+use Rattle.orbits.proofs.words.is_finite_word.Tie as tie
 
 finite-kind : Kind → Bool
 finite-kind ZeroOrSubnormal = true

@@ -7,9 +7,9 @@ use lib.ListN.{getD}
 use Rattle.bits.specs.Choice.{pick}
 use Rattle.bits.specs.Arithmetic.{isFinite}
 use Rattle.arcs.specs.declared.figures.Vector.{Vector}
-use Rattle.states.specs.declared.figures.Orbit.{Orbit}
-use Rattle.states.specs.declared.figures.Read.{Read}
-use Rattle.states.specs.declared.figures.Read.the-variants as read
+use Rattle.orbits.specs.declared.figures.Orbit.{Orbit}
+use Rattle.orbits.specs.declared.figures.Read.{Read}
+use Rattle.orbits.specs.declared.figures.Read.the-variants as read
 
 -- The number of the first word that "is NaN or infinite", from 0; of a run without one, its length.
 unfoldable pub firstNotFinite : List ℕ → ℕ

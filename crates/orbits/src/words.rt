@@ -2,7 +2,7 @@
 ghost use mathlib.Core.Path.{_≡_};
 ghost use lib.Ieee.{binary64, ofBits};
 ghost use Rattle.bits.specs.Arithmetic.{isFinite};
-ghost use Rattle.states.specs.Words.{firstNotFinite, readOf};
+ghost use Rattle.orbits.specs.Words.{firstNotFinite, readOf};
 use super::figures::Orbit;
 use super::figures::Read;
 use arcs::figures::State;
@@ -22,7 +22,7 @@ fn is_finite_word(word: u64) -> bool
 }
 
 // The number, from 0, of the first of eight words that is not finite; 8 where all are.
-pub fn first_not_finite(words: [u64; 8]) -> u64
+fn first_not_finite(words: [u64; 8]) -> u64
     ensures { λ r. ⌜ r ≡ firstNotFinite words ⌝ }
 {
     let mut k = 0usize;

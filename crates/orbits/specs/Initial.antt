@@ -12,15 +12,15 @@ use Rattle.search.specs.declared.figures.Initial.{Initial}
 use Rattle.arcs.specs.Finite.{allFinite}
 use Rattle.arcs.specs.declared.figures.Vector.{Vector}
 use Rattle.arcs.specs.declared.figures.State.{State}
-use Rattle.states.specs.declared.figures.Begun.{Begun}
-use Rattle.states.specs.declared.figures.Begun.the-variants as begun
+use Rattle.orbits.specs.declared.figures.Begun.{Begun}
+use Rattle.orbits.specs.declared.figures.Begun.the-variants as begun
 
 -- "(x·x+y·y)+z·z", "σ0 = x·vx+y·vy+z·vz" and "v² = vx·vx+vy·vy+vz·vz" are the same formula: sums "group from the left".
 unfoldable pub dot : Vector → Vector → Float
 dot a b = (a .x ⊗ b .x ⊕ a .y ⊗ b .y) ⊕ a .z ⊗ b .z
 
 -- "α = v² − (2·μ)/r0". Refusal 3: "(x·x+y·y)+z·z is zero". Refusal 4: "that sum, σ0, v², (2·μ)/r0, α or H below isn't finite"; H is the interval's,
--- and refused where the interval is (Call.antt).
+-- and refused where the interval is (Call of crate `states`).
 abbrev pub begunFrom : (mu sum r0 sigma0 v2 : Float) → Begun
 begunFrom mu sum r0 sigma0 v2 =
     let quotient = (n2 ⊗ mu) ⊘ r0 in
