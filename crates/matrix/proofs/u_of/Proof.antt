@@ -1,8 +1,8 @@
 -- The code is the definition written out.
 use mathlib.Core.Path.{refl}
-use Rattle.partials.specs.Matrix.{uOf}
-use Rattle.partials.proofs.matrix.u_of.Statement.{statement}
-use Rattle.partials.proofs.matrix.u_of.Tie as tie
+use Rattle.matrix.specs.Matrix.{uOf}
+use Rattle.matrix.proofs.u_of.Statement.{statement}
+use Rattle.matrix.proofs.u_of.Tie as tie
 
 returns : tie.Need-returns
 unfolding uOf

@@ -1,8 +1,8 @@
 -- The code is the definition written out.
 use mathlib.Core.Path.{refl}
-use Rattle.partials.specs.Matrix.{matrixOf}
-use Rattle.partials.proofs.matrix.matrix_of.Statement.{statement}
-use Rattle.partials.proofs.matrix.matrix_of.Tie as tie
+use Rattle.matrix.specs.Matrix.{matrixOf}
+use Rattle.matrix.proofs.matrix_of.Statement.{statement}
+use Rattle.matrix.proofs.matrix_of.Tie as tie
 
 returns : tie.Need-returns
 unfolding matrixOf

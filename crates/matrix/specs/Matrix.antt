@@ -4,7 +4,7 @@ use mathlib.Core.List.{List, [], _∷_}
 use lib.Ieee.{Float, binary64, neg, ofBits, ofInt}
 use Rattle.bits.specs.Arithmetic.{_⊕_, _⊖_, _⊗_, _⊘_, n1, AreWhole}
 use Rattle.arcs.specs.declared.figures.Arc.{Arc}
-use Rattle.partials.specs.declared.matrix.Matrix.{Matrix}
+use Rattle.matrix.specs.declared.Matrix.{Matrix}
 
 abbrev pub n3 : Float
 n3 = ofBits binary64 0x4008000000000000

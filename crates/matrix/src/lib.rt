@@ -1,6 +1,6 @@
-// U, and A11 to A33.
+// Layer 4, what the partials of an arc are made of: U, and A11 to A33 (document 01, "Results and partials").
 ghost use mathlib.Core.Path.{_≡_};
-ghost use Rattle.partials.specs.Matrix.{uOf, matrixOf, divisorsOf};
+ghost use Rattle.matrix.specs.Matrix.{uOf, matrixOf, divisorsOf};
 use arcs::figures::Arc;
 
 // A11 to A33 of document 01: A11 in 1/(km^2 s), A12 and A21 in 1/km^2, A13, A22 and A31 in s/km^2, A23 and A32 in s^2/km^2, A33 in s^3/km^2.

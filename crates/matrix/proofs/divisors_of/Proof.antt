@@ -1,8 +1,8 @@
 -- The code is the definition written out.
 use mathlib.Core.Path.{refl}
-use Rattle.partials.specs.Matrix.{divisorsOf}
-use Rattle.partials.proofs.matrix.divisors_of.Statement.{statement}
-use Rattle.partials.proofs.matrix.divisors_of.Tie as tie
+use Rattle.matrix.specs.Matrix.{divisorsOf}
+use Rattle.matrix.proofs.divisors_of.Statement.{statement}
+use Rattle.matrix.proofs.divisors_of.Tie as tie
 
 returns : tie.Need-returns
 unfolding divisorsOf
