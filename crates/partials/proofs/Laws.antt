@@ -13,7 +13,7 @@ use lib.Ieee.{Float, nan}
 use Rattle.bits.specs.Choice.{pick}
 use Rattle.arcs.specs.Finite.{allFinite, anyZero}
 use Rattle.arcs.specs.declared.figures.Arc.{Arc}
-use Rattle.partials.specs.Matrix.{uOf, matrixOf, divisorsOf}
+use Rattle.matrix.specs.Matrix.{uOf, matrixOf, divisorsOf}
 use Rattle.partials.specs.Entries.{entryOf, firstOf, entriesOf}
 use Rattle.partials.specs.Partials.{refusalOf, lentAfter}
 

@@ -3,7 +3,7 @@ use mathlib.Core.Path.{_≡_, refl}
 use mathlib.Core.List.{[], _∷_}
 use lib.Ieee.{add, sub, mul, div, neg, ofBits, toBits}
 use Rattle.arcs.specs.Cases.{arc}
-use Rattle.partials.specs.Matrix.{uOf, matrixOf}
+use Rattle.matrix.specs.Matrix.{uOf, matrixOf}
 use Rattle.partials.specs.Entries.{plusOf, minusOf, unitOf, componentOf, entryOf, firstOf, entriesOf}
 use Rattle.partials.specs.Partials.{wordsOf}
 

@@ -8,8 +8,8 @@ use Rattle.bits.specs.Choice.{pick}
 use Rattle.bits.specs.Arithmetic.{_⊕_, _⊖_, _⊗_, n0, n1}
 use Rattle.arcs.specs.declared.figures.Vector.{Vector}
 use Rattle.arcs.specs.declared.figures.Arc.{Arc}
-use Rattle.partials.specs.Matrix.{uOf, matrixOf}
-use Rattle.partials.specs.declared.matrix.Matrix.{Matrix}
+use Rattle.matrix.specs.Matrix.{uOf, matrixOf}
+use Rattle.matrix.specs.declared.Matrix.{Matrix}
 
 -- "Let p, w be a component of the result's position and velocity, q, u one of the start's. The partial of p by q is
 -- f·I + ((A21·p·q+A22·p·u)+(A31·w·q+A32·w·u))": the bracket, with a, b, c, d in the places of A21, A22, A31, A32.

@@ -7,7 +7,7 @@ use lib.ListN.{length}
 use Rattle.bits.specs.Choice.{pick}
 use Rattle.arcs.specs.Finite.{allFinite, anyZero}
 use Rattle.arcs.specs.declared.figures.Arc.{Arc}
-use Rattle.partials.specs.Matrix.{divisorsOf}
+use Rattle.matrix.specs.Matrix.{divisorsOf}
 use Rattle.partials.specs.Entries.{entriesOf}
 
 -- Their words, which the run is to hold.

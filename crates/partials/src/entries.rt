@@ -1,11 +1,11 @@
 // The 36 partials, row by row.
 ghost use mathlib.Core.Path.{_≡_};
 ghost use Rattle.partials.specs.Entries.{plusOf, minusOf, componentOf, unitOf, entryOf, entriesOf};
-use super::matrix::Matrix;
-use super::matrix::matrix_of;
-use super::matrix::u_of;
 use arcs::figures::Arc;
 use arcs::figures::Vector;
+use matrix::Matrix;
+use matrix::matrix_of;
+use matrix::u_of;
 
 // A partial of the position: k·I and the four products.
 fn plus(k: f64, unit: f64, a: f64, b: f64, c: f64, d: f64, p: f64, w: f64, q: f64, u: f64) -> f64

@@ -1,4 +1,4 @@
-// Layer 4, the partials of an arc (document 01, "Results and partials", from U on, and the partials' part of refusals 1 and 8).
+// Layer 4, the partials of an arc (document 01, "Results and partials", from A11 to A33 on, and the partials' part of refusals 1 and 8).
 ghost use mathlib.Core.Path.{_≡_};
 ghost use mathlib.Core.Bool.{true};
 ghost use lib.ListN.{length};
@@ -7,12 +7,11 @@ ghost use Rattle.partials.specs.Partials.{wordsOf, refusalOf, lentAfter}
 use arcs::figures::Arc;
 use arcs::finite::all_finite;
 use arcs::finite::any_zero;
+use matrix::divisors_of;
 
 mod entries;
-mod matrix;
 
 use entries::entries;
-use matrix::divisors_of;
 
 // Writes the words of the 36 partials to the run.
 fn write_words(table: [f64; 36], run: &mut [u64])

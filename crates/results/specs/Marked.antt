@@ -13,8 +13,8 @@ use Rattle.search.specs.Search.{searchOf}
 use Rattle.arcs.specs.Finite.{allFinite, anyZero}
 use Rattle.arcs.specs.Results.{factorsOf, endOf, arcOf, accelerationOf, resultsOf, divisorsOf, figuresOf, endedOf}
 use Rattle.partials.specs.Partials.{wordsOf}
-use Rattle.states.specs.Words.{firstNotFinite, readOf}
-use Rattle.states.specs.Initial.{dot, begunOf, firstStepOf}
+use Rattle.orbits.specs.Words.{firstNotFinite, readOf}
+use Rattle.orbits.specs.Initial.{dot, begunOf, firstStepOf}
 use Rattle.states.specs.Call.{refused, answered, reachedBy, reachedFrom, reachedOrbit, reachedOf, endedAnswer, propagateOf, answerWords}
 use Rattle.runs.specs.Words.{written}
 use Rattle.files.specs.Reader.{readingOf}

@@ -22,7 +22,7 @@ use Rattle.partials.specs.Entries.{entriesOf}
 use Rattle.arcs.proofs.Laws.{seven-or-eight}
 use Rattle.partials.proofs.Laws.{zero-or-eight}
 use Rattle.partials.specs.Partials.{refusalOf, lentAfter, wordsOf}
-use Rattle.states.specs.Initial.{firstStepOf}
+use Rattle.orbits.specs.Initial.{firstStepOf}
 use Rattle.states.specs.Call.{noResults, refused, answered, reachedBy, reachedFrom, reachedBegun, reachedOrbit, reachedRead, reachedOf, endedAnswer, answerBy, propagateOf, withPartials, endedWith, lentEnded, partialsBy, lentBy, partialsOf, lentOf}
 use Rattle.states.specs.Demand.{ZerosOrAnswer, UnchangedOrAnswer, Searches, FindsAnomaly}
 use Rattle.states.specs.declared.figures.Reached.{Reached}

@@ -1,5 +1,3 @@
--- The laws of this layer: the initial figures, what each function leaves open, and what the calls promise. WordLaws serves proofs.
-mod WordLaws
-pub mod Laws
+-- The laws of this layer: what the calls promise, and what each function leaves open.
 pub mod Demand
 pub mod OneAnswers

@@ -1,14 +1,6 @@
 -- Any two answers that the promise of a public function allows are equal: each promise names its answer.
 use mathlib.Core.Path.{refl, sym, _∙_}
 use Rattle.bits.specs.OneAnswer.{OneAnswer}
-use Rattle.states.proofs.words.first_not_finite.Kinds as first-not-finite-kinds
-use Rattle.states.proofs.words.first_not_finite.Reads as first-not-finite-reads
-use Rattle.states.proofs.words.orbit_of.Kinds as orbit-of-kinds
-use Rattle.states.proofs.words.orbit_of.Reads as orbit-of-reads
-use Rattle.states.proofs.initial.initial_of.Kinds as initial-of-kinds
-use Rattle.states.proofs.initial.initial_of.Reads as initial-of-reads
-use Rattle.states.proofs.initial.first_step.Kinds as first-step-kinds
-use Rattle.states.proofs.initial.first_step.Reads as first-step-reads
 use Rattle.states.proofs.call.reach_from.Kinds as reach-from-kinds
 use Rattle.states.proofs.call.reach_from.Reads as reach-from-reads
 use Rattle.states.proofs.call.reach.Kinds as reach-kinds
@@ -19,18 +11,6 @@ use Rattle.states.proofs.call.propagate_with_partials.Kinds as partials
 use Rattle.states.proofs.call.propagate_with_partials.Reads as partials-reads
 use Rattle.states.proofs.answer.words_of.Kinds as words-of-kinds
 use Rattle.states.proofs.answer.words_of.Reads as words-of-reads
-
-pub first-not-finite : OneAnswer 0 first-not-finite-kinds.ps first-not-finite-kinds.r first-not-finite-reads.Post
-first-not-finite κs a x y v w p q = (p ∙ sym q, refl)
-
-pub orbit-of : OneAnswer 0 orbit-of-kinds.ps orbit-of-kinds.r orbit-of-reads.Post
-orbit-of κs a x y v w p q = (p ∙ sym q, refl)
-
-pub initial-of : OneAnswer 0 initial-of-kinds.ps initial-of-kinds.r initial-of-reads.Post
-initial-of κs a x y v w p q = (p ∙ sym q, refl)
-
-pub first-step : OneAnswer 0 first-step-kinds.ps first-step-kinds.r first-step-reads.Post
-first-step κs a x y v w p q = (p ∙ sym q, refl)
 
 pub reach-from : OneAnswer 0 reach-from-kinds.ps reach-from-kinds.r reach-from-reads.Post
 reach-from κs a x y v w p q = (p ∙ sym q, refl)

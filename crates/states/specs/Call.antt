@@ -19,13 +19,13 @@ use Rattle.arcs.specs.declared.figures.Results.{Results}
 use Rattle.arcs.specs.declared.figures.Ended.{Ended}
 use Rattle.arcs.specs.declared.figures.Ended.the-variants as ended
 use Rattle.partials.specs.Partials.{wordsOf, refusalOf, lentAfter}
-use Rattle.states.specs.Words.{readOf}
-use Rattle.states.specs.Initial.{begunOf, firstStepOf}
-use Rattle.states.specs.declared.figures.Orbit.{Orbit}
-use Rattle.states.specs.declared.figures.Read.{Read}
-use Rattle.states.specs.declared.figures.Read.the-variants as read
-use Rattle.states.specs.declared.figures.Begun.{Begun}
-use Rattle.states.specs.declared.figures.Begun.the-variants as begun
+use Rattle.orbits.specs.Words.{readOf}
+use Rattle.orbits.specs.Initial.{begunOf, firstStepOf}
+use Rattle.orbits.specs.declared.figures.Orbit.{Orbit}
+use Rattle.orbits.specs.declared.figures.Read.{Read}
+use Rattle.orbits.specs.declared.figures.Read.the-variants as read
+use Rattle.orbits.specs.declared.figures.Begun.{Begun}
+use Rattle.orbits.specs.declared.figures.Begun.the-variants as begun
 use Rattle.states.specs.declared.figures.Reached.{Reached}
 use Rattle.states.specs.declared.figures.Reached.the-variants as reached
 use Rattle.states.specs.declared.figures.Answer.{Answer}

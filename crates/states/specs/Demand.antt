@@ -12,12 +12,12 @@ use Rattle.history.specs.Demand.{Findable}
 use Rattle.search.specs.Demand.{IsAnomaly, triedAt}
 use Rattle.points.specs.declared.figures.Initial.{Initial}
 use Rattle.arcs.specs.Results.{arcOf, resultsOf}
-use Rattle.states.specs.Words.{readOf}
-use Rattle.states.specs.Initial.{begunOf, firstStepOf}
+use Rattle.orbits.specs.Words.{readOf}
+use Rattle.orbits.specs.Initial.{begunOf, firstStepOf}
 use Rattle.states.specs.Call.{refused, answered, noResults, propagateOf, partialsOf, lentOf}
-use Rattle.states.specs.declared.figures.Orbit.{Orbit}
-use Rattle.states.specs.declared.figures.Read.the-variants as read
-use Rattle.states.specs.declared.figures.Begun.the-variants as begun
+use Rattle.orbits.specs.declared.figures.Orbit.{Orbit}
+use Rattle.orbits.specs.declared.figures.Read.the-variants as read
+use Rattle.orbits.specs.declared.figures.Begun.the-variants as begun
 use Rattle.states.specs.declared.figures.Answer.{Answer}
 
 -- Demand 1: bad input gets its refusal "with zeros for figures, and lent memory unchanged".

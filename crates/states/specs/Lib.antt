@@ -1,6 +1,3 @@
--- Layer 4: from the eight words of an orbit to its answer. Read the files in this order.
-pub mod Words
-pub mod Initial
+-- Layer 4: from eight words to an answer. Read the files in this order.
 pub mod Call
 pub mod Demand
-pub mod Cases

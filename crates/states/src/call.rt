@@ -4,12 +4,7 @@ ghost use Rattle.arcs.specs.Results.{endedOf};
 ghost use Rattle.partials.specs.Partials.{lentAfter};
 ghost use Rattle.states.specs.Call.{refused, answered, reachedBy, reachedFrom, reachedOrbit, reachedOf, endedAnswer, propagateOf, withPartials, endedWith, lentEnded, partialsOf, lentOf};
 use super::figures::Answer;
-use super::figures::Begun;
-use super::figures::Orbit;
 use super::figures::Reached;
-use super::figures::Read;
-use super::initial;
-use super::words;
 use arcs::figures::Arc;
 use arcs::figures::Ended;
 use arcs::figures::Results;
@@ -17,6 +12,9 @@ use arcs::figures::State;
 use arcs::figures::Vector;
 use arcs::results::arc_at;
 use arcs::results::ended;
+use orbits::Begun;
+use orbits::Orbit;
+use orbits::Read;
 use points::figures::Initial;
 use series::Anomaly;
 use series::Seconds;
@@ -80,7 +78,7 @@ fn reached_by(
 pub fn reach_from(initial: Initial, state: State, tau: Seconds) -> Reached
     ensures { λ r. ⌜ r ≡ reachedFrom initial state tau ⌝ }
 {
-    let h = initial::first_step(initial, tau);
+    let h = orbits::first_step(initial, tau);
     if bits::words::is_finite(h) {
         return reached_by(initial, state, tau, search::search(initial, tau, h));
     }
@@ -92,7 +90,7 @@ fn reach_orbit(orbit: Orbit) -> Reached
     ensures { λ r. ⌜ r ≡ reachedOrbit orbit ⌝ }
 {
     let state = orbit.state;
-    match initial::initial_of(orbit.mu, state) {
+    match orbits::initial_of(orbit.mu, state) {
         Begun::Initial(figures) => {
             let tau = orbit.tau;
             reach_from(figures, state, tau)
@@ -105,7 +103,7 @@ fn reach_orbit(orbit: Orbit) -> Reached
 pub fn reach(words: [u64; 8]) -> Reached
     ensures { λ r. ⌜ r ≡ reachedOf words ⌝ }
 {
-    match words::orbit_of(words) {
+    match orbits::orbit_of(words) {
         Read::Orbit(orbit) => reach_orbit(orbit),
         Read::NotFinite(_) => Reached::Refused(2, 0),
     }

@@ -2,5 +2,3 @@
 pub mod answer;
 pub mod call;
 pub mod figures;
-pub mod initial;
-pub mod words;

@@ -8,7 +8,7 @@ use borrow.Author.Tests.{eq-eqb, ne-eqb}
 use lib.ListN.{length}
 use lib.Ieee.{Float}
 use Rattle.arcs.specs.Finite.{allFinite, anyZero}
-use Rattle.partials.specs.Matrix.{divisorsOf}
+use Rattle.matrix.specs.Matrix.{divisorsOf}
 use Rattle.partials.specs.Entries.{entriesOf}
 use Rattle.partials.specs.Partials.{wordsOf, refusalOf, lentAfter}
 use Rattle.arcs.specs.declared.figures.Arc.{Arc}

@@ -8,10 +8,10 @@ use borrow.Author.Needs.{needs}
 use lib.ListN.{length, take, set, length-set}
 use lib.Seq.{take-suc-set, take-all}
 use lib.Ieee.{Float}
-use Rattle.partials.specs.Matrix.{uOf, matrixOf}
+use Rattle.matrix.specs.Matrix.{uOf, matrixOf}
 use Rattle.partials.specs.Entries.{entryOf, firstOf, rowByRow, entriesOf}
 use Rattle.arcs.specs.declared.figures.Arc.{Arc}
-use Rattle.partials.specs.declared.matrix.Matrix.{Matrix}
+use Rattle.matrix.specs.declared.Matrix.{Matrix}
 use Rattle.partials.proofs.entries.entries.Statement.{statement}
 use Rattle.partials.proofs.entries.entries.Tie as tie
 

@@ -8,7 +8,7 @@ use lib.Dec.{ltb}
 use lib.Ieee.{Float}
 use Rattle.partials.specs.Entries.{unitOf, componentOf, partial, entryOf}
 use Rattle.arcs.specs.declared.figures.Arc.{Arc}
-use Rattle.partials.specs.declared.matrix.Matrix.{Matrix}
+use Rattle.matrix.specs.declared.Matrix.{Matrix}
 use Rattle.partials.proofs.entries.entry.Statement.{statement}
 use Rattle.partials.proofs.entries.entry.Tie as tie
 
