@@ -36,6 +36,6 @@ its-initial =
 figures :
     (readOf an-orbit ≡ read.Orbit (orbit an-orbit))
     × (begunOf (orbit an-orbit .mu) (orbit an-orbit .state) ≡ begun.Initial its-initial)
-    × (firstStepOf its-initial (orbit an-orbit .tau) ≡ ofBits binary64 0x3eb4f2ec413cb52b)
+    × (firstStepOf its-initial (orbit an-orbit .tau) .0 ≡ ofBits binary64 0x3eb4f2ec413cb52b)
 unfolding an-orbit its-initial firstNotFinite readOf dot begunOf allFinite firstStepOf rootWordOf rootOf add sub mul div eq ofBits toBits
 figures = (refl, refl, refl)

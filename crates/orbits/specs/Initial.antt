@@ -7,6 +7,7 @@ use lib.Ieee.{Float, binary64, div, eq, ofBits, ofInt}
 use Rattle.bits.specs.Choice.{pick}
 use Rattle.bits.specs.Arithmetic.{_⊕_, _⊖_, _⊗_, _⊘_, n0, n1, n2, magnitude}
 use Rattle.bits.specs.Root.{rootOf}
+use Rattle.series.specs.declared.figures.Anomaly.{Anomaly}
 use Rattle.series.specs.declared.figures.Seconds.{Seconds}
 use Rattle.points.specs.declared.figures.Initial.{Initial}
 use Rattle.arcs.specs.Finite.{allFinite}
@@ -44,5 +45,5 @@ unfolding ofBits ofInt div
 its-inverse = refl
 
 -- "H = (|τ|/r0)·2^−20"
-unfoldable pub firstStepOf : Initial → Seconds → Float
-firstStepOf i tau = (magnitude (tau .0) ⊘ i .r0) ⊗ twoToMinus20
+unfoldable pub firstStepOf : Initial → Seconds → Anomaly
+firstStepOf i tau = record { 0 = (magnitude (tau .0) ⊘ i .r0) ⊗ twoToMinus20 }

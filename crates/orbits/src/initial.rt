@@ -8,6 +8,7 @@ use arcs::figures::Vector;
 use arcs::finite::all_finite;
 use bits::words::SIGN;
 use points::figures::Initial;
+use series::Anomaly;
 use series::Seconds;
 
 // 2^-20.
@@ -58,9 +59,9 @@ fn magnitude_of(x: f64) -> f64
     f64::from_bits(f64::to_bits(x) % SIGN)
 }
 
-// H (s/km), with which the search goes outward.
-pub fn first_step(initial: Initial, tau: Seconds) -> f64
+// H (s/km), an anomaly, from which the search goes outward.
+pub fn first_step(initial: Initial, tau: Seconds) -> Anomaly
     ensures { λ r. ⌜ r ≡ firstStepOf initial tau ⌝ }
 {
-    (magnitude_of(tau.0) / initial.r0) * FIRST_STEP
+    Anomaly((magnitude_of(tau.0) / initial.r0) * FIRST_STEP)
 }

@@ -5,6 +5,7 @@ use mathlib.Core.Path.{_≡_, refl}
 use mathlib.Core.List.{List, [], _∷_}
 use lib.Ieee.{Float, binary64, ofBits, toBits, neg, add, sub, mul, div, lt, eq, ne}
 use Rattle.series.specs.Series.{beyondOne, reducedFrom, nested, c4Of, c5Of, atReduced, doublings, quotientsOf, coefficientsOf, sumsOf}
+use Rattle.series.specs.declared.figures.Anomaly.{Anomaly}
 use Rattle.series.specs.declared.figures.Seconds.{Seconds}
 use Rattle.points.specs.declared.figures.Initial.{Initial}
 use Rattle.search.specs.declared.figures.Answer.{Answer}
@@ -28,11 +29,14 @@ initial mu r0 sigma0 alpha = record { mu = number mu; r0 = number r0; sigma0 = n
 abbrev seconds : ℕ → Seconds
 seconds tau = record { 0 = number tau }
 
+abbrev anomaly : ℕ → Anomaly
+anomaly psi = record { 0 = number psi }
+
 abbrev found : (psi points : ℕ) → Answer
-found psi points = answer.Found (record { 0 = number psi }) points
+found psi points = answer.Found (anomaly psi) points
 
 -- "If τ is either zero, ψ = +0 with no trial points."
-pub no-interval : (i : Initial) (h : Float) → (searchOf i (seconds 0) h ≡ found 0 0) × (searchOf i (seconds 0x8000000000000000) h ≡ found 0 0)
+pub no-interval : (i : Initial) (h : Anomaly) → (searchOf i (seconds 0) h ≡ found 0 0) × (searchOf i (seconds 0x8000000000000000) h ≡ found 0 0)
 unfolding ofBits eq searchOf
 no-interval i h = (refl, refl)
 
@@ -54,13 +58,13 @@ rows (ends unreadable) = []
 rows (ends allShort) = []
 
 -- Every point that a search tries, in order, and then the two neighbours, or the exact point, with which it ends.
-abbrev Tries : Initial → Seconds → (h : Float) → List Row → Type 0
-Tries i tau h points = rows (historyAt i tau (placeOf h)) ≡ points
+abbrev Tries : Initial → Seconds → (h : Anomaly) → List Row → Type 0
+Tries i tau h points = rows (historyAt i tau (placeOf (h .0))) ≡ points
 
 -- A closed orbit: μ = 398600.4418 km^3/s^2, position (-2500, -4000, 2000) km, velocity (-6.8, -4.4, 8.7) km/s, τ = 1800 s. After 20 outward points there are
 -- seven rounds, which take in turn the first, second, first, third and first proposal, none, and the first.
 forward :
-    Tries (initial 0x41185421c467381d 0x40b40379b2b2ef50 0x40e9640000000000 0xc02c9d883eb95380) (seconds 0x409c200000000000) (number 0x3e967c17c4c5e46e)
+    Tries (initial 0x41185421c467381d 0x40b40379b2b2ef50 0x40e9640000000000 0xc02c9d883eb95380) (seconds 0x409c200000000000) (anomaly 0x3e967c17c4c5e46e)
     (
     short 0x3e967c17c4c5e46e 0xc09c1ffe3dffcddb
     ∷ short 0x3ea67c17c4c5e46e 0xc09c1ffc7bff376e

@@ -101,43 +101,43 @@ module _ (i : Initial) (tau : Seconds) (first : ℕ) where
       rw (counted-is 0 (historyAt i tau first), e) given-searched
 
 -- The search keeps its promise.
-pub promise : (i : Initial) (tau : Seconds) (h : Float) → Promise i tau h (searchOf i tau h)
+pub promise : (i : Initial) (tau : Seconds) (h : Anomaly) → Promise i tau h (searchOf i tau h)
 unfolding searchOf
-promise i tau h = record { no-interval = λ e. rw e; interval = λ e. rw e (searched i tau (placeOf h)) }
+promise i tau h = record { no-interval = λ e. rw e; interval = λ e. rw e (searched i tau (placeOf (h .0))) }
 
 -- The points that it tries are those of its trial function.
 pub tried-at : (i : Initial) (tau : Seconds) (first : ℕ) → TriedBy (trialAt i tau) (triedAt i tau first)
 tried-at i tau first = history-tried (trialAt i tau) (threeProposals i tau) first (neg (tau .0))
 
 -- "At most 63 rounds" is no rule of its own here: any more change nothing.
-pub rounds-at : (i : Initial) (tau : Seconds) (h : Float) (more : ℕ) → historyIn (63 + more) (trialAt i tau) (threeProposals i tau) (placeOf h) (neg (tau .0)) ≡ historyAt i tau (placeOf h)
-rounds-at i tau h more = rounds-63 (trialAt i tau) (placeOf h) (neg (tau .0)) (threeProposals i tau) (omega arith) more
+pub rounds-at : (i : Initial) (tau : Seconds) (h : Anomaly) (more : ℕ) → historyIn (63 + more) (trialAt i tau) (threeProposals i tau) (placeOf (h .0)) (neg (tau .0)) ≡ historyAt i tau (placeOf (h .0))
+rounds-at i tau h more = rounds-63 (trialAt i tau) (placeOf (h .0)) (neg (tau .0)) (threeProposals i tau) (omega arith) more
 
 -- ---- The promise once more, of `searchOf` itself, where tau isn't zero.
-module _ (i : Initial) (tau : Seconds) (h : Float) (interval : eq (tau .0) n0 ≡ false) where
-  kept : Searched i tau (placeOf h) (searchOf i tau h)
+module _ (i : Initial) (tau : Seconds) (h : Anomaly) (interval : eq (tau .0) n0 ≡ false) where
+  kept : Searched i tau (placeOf (h .0)) (searchOf i tau h)
   kept = promise i tau h .interval interval
 
   -- Demand 3: "if some of the 41 outward points isn't short and no double up to the first such point is unreadable, an anomaly is found, exact or short
   -- with the very next double past".
-  pub demand3 : Findable (trialAt i tau) (placeOf h)
-      → (p n : ℕ) × (searchOf i tau h ≡ answer.Found (anomalyAt tau p) n) × IsAnomaly i tau p × (n ≡ length (triedAt i tau (placeOf h))) × (n ≤ 145)
+  pub demand3 : Findable (trialAt i tau) (placeOf (h .0))
+      → (p n : ℕ) × (searchOf i tau h ≡ answer.Found (anomalyAt tau p) n) × IsAnomaly i tau p × (n ≡ length (triedAt i tau (placeOf (h .0)))) × (n ≤ 145)
   demand3 f =
       let x = kept .finds f in
-      let y = subst (Says i tau (placeOf h)) (x .1) (kept .says) in
+      let y = subst (Says i tau (placeOf (h .0))) (x .1) (kept .says) in
       let n = usedIn (searchOf i tau h) in
       (y .0, n, x .1 ∙ ap (λ (psi : Anomaly). answer.Found psi n) (y .1), y .2, kept .counts, kept .at-most)
 
   -- Refusal 5, with 41 points.
-  pub refusal5 : ((n : ℕ) × (searchOf i tau h ≡ answer.AllShort n)) ↔ AllOutwardShort (trialAt i tau) (placeOf h)
+  pub refusal5 : ((n : ℕ) × (searchOf i tau h ≡ answer.AllShort n)) ↔ AllOutwardShort (trialAt i tau) (placeOf (h .0))
   refusal5 = (λ x. rw (x .1) at (kept .says), λ a. (41, kept .all-short a))
 
   pub refusal5-points : (n : ℕ) → searchOf i tau h ≡ answer.AllShort n → n ≡ 41
   refusal5-points n e = cc (kept .all-short (refusal5 .0 (n, e)))
 
   -- Refusal 6, with the points used so far, of which the last is the unreadable one.
-  pub refusal6 : ((n : ℕ) × (searchOf i tau h ≡ answer.Unreadable n)) ↔ SomeUnreadable (triedAt i tau (placeOf h))
+  pub refusal6 : ((n : ℕ) × (searchOf i tau h ≡ answer.Unreadable n)) ↔ SomeUnreadable (triedAt i tau (placeOf (h .0)))
   refusal6 = (λ x. last-some (rw (x .1) at (kept .says)), λ u. (usedIn (searchOf i tau h), kept .unreadable u))
 
-  pub refusal6-points : (n : ℕ) → searchOf i tau h ≡ answer.Unreadable n → (n ≡ length (triedAt i tau (placeOf h))) × LastUnreadable (triedAt i tau (placeOf h))
+  pub refusal6-points : (n : ℕ) → searchOf i tau h ≡ answer.Unreadable n → (n ≡ length (triedAt i tau (placeOf (h .0)))) × LastUnreadable (triedAt i tau (placeOf (h .0)))
   refusal6-points n e = (rw e at (kept .counts), rw e at (kept .says))

@@ -48,6 +48,6 @@ pub record Searched (i : Initial) (tau : Seconds) (first : ℕ) (a : Answer) : T
   pub at-most : usedIn a ≤ 145
 
 -- All that a caller learns. "If τ is either zero, ψ = +0 with no trial points."
-pub record Promise (i : Initial) (tau : Seconds) (h : Float) (a : Answer) : Type 0 where
+pub record Promise (i : Initial) (tau : Seconds) (h : Anomaly) (a : Answer) : Type 0 where
   pub no-interval : eq (tau .0) n0 ≡ true → a ≡ answer.Found (record { 0 = n0 }) 0
-  pub interval : eq (tau .0) n0 ≡ false → Searched i tau (placeOf h) a
+  pub interval : eq (tau .0) n0 ≡ false → Searched i tau (placeOf (h .0)) a

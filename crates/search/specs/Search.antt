@@ -4,6 +4,7 @@ use mathlib.Core.List.{[]}
 use lib.Ieee.{Float, neg, eq}
 use Rattle.bits.specs.Choice.{pick}
 use Rattle.bits.specs.Arithmetic.{n0}
+use Rattle.series.specs.declared.figures.Anomaly.{Anomaly}
 use Rattle.series.specs.declared.figures.Seconds.{Seconds}
 use Rattle.points.specs.declared.figures.Initial.{Initial}
 use Rattle.search.specs.declared.figures.Answer.{Answer}
@@ -34,8 +35,8 @@ answerOf tau (Unreadable n) = answer.Unreadable n
 answerOf tau (AllShort n) = answer.AllShort n
 
 -- "If τ is either zero, ψ = +0 with no trial points."
-unfoldable pub searchOf : Initial → Seconds → (h : Float) → Answer
+unfoldable pub searchOf : Initial → Seconds → (h : Anomaly) → Answer
 searchOf i tau h =
     pick (eq (tau .0) n0)
     (answer.Found (record { 0 = n0 }) 0)
-    (answerOf tau (counted 0 (historyAt i tau (placeOf h))))
+    (answerOf tau (counted 0 (historyAt i tau (placeOf (h .0)))))

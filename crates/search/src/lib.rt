@@ -19,7 +19,7 @@ pub mod figures;
 mod turn;
 
 // The anomaly of the interval tau, with the trial points used, searched outward from the place of |h|, H of document 01.
-pub fn search(initial: Initial, tau: Seconds, h: f64) -> Answer
+pub fn search(initial: Initial, tau: Seconds, h: Anomaly) -> Answer
     ensures { λ r. ⌜ r ≡ searchOf initial tau h ⌝ }
 {
     if tau.0 == 0.0 {
@@ -28,7 +28,7 @@ pub fn search(initial: Initial, tau: Seconds, h: f64) -> Answer
             points: 0,
         };
     }
-    let next = outward(initial, tau, trial::place_of(h));
+    let next = outward(initial, tau, trial::place_of(h.0));
     match next {
         Next::Between(pair, points) => answer(tau, inward(initial, tau, pair, points)),
         _ => answer(tau, next),

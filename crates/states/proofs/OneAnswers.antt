@@ -1,22 +1,12 @@
 -- Any two answers that the promise of a public function allows are equal: each promise names its answer.
 use mathlib.Core.Path.{refl, sym, _∙_}
 use Rattle.bits.specs.OneAnswer.{OneAnswer}
-use Rattle.states.proofs.call.reach_from.Kinds as reach-from-kinds
-use Rattle.states.proofs.call.reach_from.Reads as reach-from-reads
-use Rattle.states.proofs.call.reach.Kinds as reach-kinds
-use Rattle.states.proofs.call.reach.Reads as reach-reads
 use Rattle.states.proofs.call.propagate.Kinds as propagate-kinds
 use Rattle.states.proofs.call.propagate.Reads as propagate-reads
 use Rattle.states.proofs.call.propagate_with_partials.Kinds as partials-kinds
 use Rattle.states.proofs.call.propagate_with_partials.Reads as partials-reads
 use Rattle.states.proofs.answer.words_of.Kinds as words-of-kinds
 use Rattle.states.proofs.answer.words_of.Reads as words-of-reads
-
-pub reach-from : OneAnswer 0 reach-from-kinds.ps reach-from-kinds.r reach-from-reads.Post
-reach-from κs a x y v w p q = (p ∙ sym q, refl)
-
-pub reach : OneAnswer 0 reach-kinds.ps reach-kinds.r reach-reads.Post
-reach κs a x y v w p q = (p ∙ sym q, refl)
 
 pub propagate : OneAnswer 0 propagate-kinds.ps propagate-kinds.r propagate-reads.Post
 propagate κs a x y v w p q = (p ∙ sym q, refl)

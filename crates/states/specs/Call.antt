@@ -59,7 +59,7 @@ reachedBy i s tau (found.Unreadable n) = reached.Refused 6 n
 unfoldable pub reachedFrom : Initial → State → Seconds → Reached
 reachedFrom i s tau =
     let h = firstStepOf i tau in
-    pick (isFinite h) (reachedBy i s tau (searchOf i tau h)) (reached.Refused 4 0)
+    pick (isFinite (h .0)) (reachedBy i s tau (searchOf i tau h)) (reached.Refused 4 0)
 
 -- Refusals 3 and 4 by the state and μ.
 abbrev pub reachedBegun : Orbit → Begun → Reached

@@ -34,11 +34,11 @@ pub record Searches (words : List ℕ) : Type 0 where
   pub initial : Initial
   pub reads : readOf words ≡ read.Orbit orbit
   pub begins : begunOf (orbit .mu) (orbit .state) ≡ begun.Initial initial
-  pub steps : isFinite (firstStepOf initial (orbit .tau)) ≡ true
+  pub steps : isFinite (firstStepOf initial (orbit .tau) .0) ≡ true
 
 -- The place of |H|, from which it searches.
 abbrev pub firstPlace : Initial → Orbit → ℕ
-firstPlace i o = placeOf (firstStepOf i (o .tau))
+firstPlace i o = placeOf (firstStepOf i (o .tau) .0)
 
 -- An answer at an anomaly, exact or short with the very next double past, with at most 167 points, the number used; or refused by 7 or 8 alone.
 pub record AnswersAt (i : Initial) (o : Orbit) (a : Answer) : Type 0 where

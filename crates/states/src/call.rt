@@ -75,11 +75,11 @@ fn reached_by(
 }
 
 // From the initial figures of a state: refusal 4 by H, then the search. One batch of requests of one state can share the initial figures.
-pub fn reach_from(initial: Initial, state: State, tau: Seconds) -> Reached
+fn reach_from(initial: Initial, state: State, tau: Seconds) -> Reached
     ensures { λ r. ⌜ r ≡ reachedFrom initial state tau ⌝ }
 {
     let h = orbits::first_step(initial, tau);
-    if bits::words::is_finite(h) {
+    if bits::words::is_finite(h.0) {
         return reached_by(initial, state, tau, search::search(initial, tau, h));
     }
     Reached::Refused(4, 0)
@@ -100,7 +100,7 @@ fn reach_orbit(orbit: Orbit) -> Reached
 }
 
 // From the eight words: refusal 2, then the orbit.
-pub fn reach(words: [u64; 8]) -> Reached
+fn reach(words: [u64; 8]) -> Reached
     ensures { λ r. ⌜ r ≡ reachedOf words ⌝ }
 {
     match orbits::orbit_of(words) {

@@ -5,8 +5,9 @@ use mathlib.Core.Bool.{false}
 use mathlib.Core.List.{[]}
 use native.Mathlib.Omega.{arith}
 use borrow.Author.Needs.{needs}
-use lib.Ieee.{Float, neg, eq}
+use lib.Ieee.{neg, eq}
 use Rattle.bits.specs.Arithmetic.{n0}
+use Rattle.series.specs.declared.figures.Anomaly.{Anomaly}
 use Rattle.series.specs.declared.figures.Seconds.{Seconds}
 use Rattle.points.specs.declared.figures.Initial.{Initial}
 use Rattle.history.specs.declared.pair.Next.{Next}
@@ -19,15 +20,15 @@ use Rattle.history.proofs.Turns.{after, followed, between-used, handed-on, inwa
 use Rattle.search.proofs.search.Statement.{statement}
 use Rattle.search.proofs.search.Tie as tie
 
-whole : (i : Initial) (tau : Seconds) (h : Float) {p : ℕ} {x : Next} → p ≡ placeOf h → x ≡ counted 0 (outwardAt i tau 41 0 (neg (tau .0)) p)
-    → after x (inwardAt i tau 63) ≡ counted 0 (historyAt i tau (placeOf h))
+whole : (i : Initial) (tau : Seconds) (h : Anomaly) {p : ℕ} {x : Next} → p ≡ placeOf (h .0) → x ≡ counted 0 (outwardAt i tau 41 0 (neg (tau .0)) p)
+    → after x (inwardAt i tau 63) ≡ counted 0 (historyAt i tau (placeOf (h .0)))
 unfolding history
 whole i tau h e o =
-    followed 0 [] (outwardAt i tau 41 0 (neg (tau .0)) (placeOf h)) (inward (trialAt i tau) (threeProposals i tau) 63 0) (inwardAt i tau 63)
+    followed 0 [] (outwardAt i tau 41 0 (neg (tau .0)) (placeOf (h .0))) (inward (trialAt i tau) (threeProposals i tau) 63 0) (inwardAt i tau 63)
     (inward-same (trialAt i tau) (proposed i tau) 63 0)
     (o ∙ ap (λ (q : ℕ). counted 0 (outwardAt i tau 41 0 (neg (tau .0)) q)) e)
 
-of-interval : (i : Initial) (tau : Seconds) (h : Float) → eq (tau .0) n0 ≡ false → answerOf tau (counted 0 (historyAt i tau (placeOf h))) ≡ searchOf i tau h
+of-interval : (i : Initial) (tau : Seconds) (h : Anomaly) → eq (tau .0) n0 ≡ false → answerOf tau (counted 0 (historyAt i tau (placeOf (h .0)))) ≡ searchOf i tau h
 unfolding searchOf
 of-interval i tau h e = sym (rw e)
 
