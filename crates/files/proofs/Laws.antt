@@ -12,21 +12,21 @@ use Rattle.bits.specs.Choice.{pick}
 use Rattle.runs.specs.Words.{wordAt, put, wordsFrom, Below}
 use Rattle.runs.proofs.WordLaws.{word-of-words, words-below, below-take, below-drop}
 use Rattle.runs.proofs.PutLaws.{put-fits}
-use Rattle.files.specs.declared.sections.Section.{Section}
-use Rattle.files.specs.declared.sections.Section.the-variants.{Centres, States, Requests}
-use Rattle.files.specs.declared.sections.Check.{Check}
-use Rattle.files.specs.declared.sections.Check.the-variants.{Sound, Fault}
-use Rattle.files.specs.declared.reader.Located.{Located}
-use Rattle.files.specs.declared.reader.Places.{Places}
-use Rattle.files.specs.declared.reader.Reading.{Reading}
-use Rattle.files.specs.declared.reader.Reading.the-variants.{Sections, Refused}
-use Rattle.files.specs.declared.writer.Writing.the-variants.{Length}
-use Rattle.files.specs.Sections.{widthOf, numberFault, statesPlace, requestsPlace, endPlace}
-use Rattle.files.specs.Reader.{fileCheck, placesOf, sectionsOf, readingBy, readingOf}
-use Rattle.files.specs.Writer.{recordsIn, lengthOf, refusalOf, fileOf, writingBy, roomBy, writingOf, roomOf}
+use Rattle.sections.specs.declared.Section.{Section}
+use Rattle.sections.specs.declared.Section.the-variants.{Centres, States, Requests}
+use Rattle.sections.specs.declared.Check.{Check}
+use Rattle.sections.specs.declared.Check.the-variants.{Sound, Fault}
+use Rattle.sections.specs.Sections.{widthOf, numberFault, statesPlace, requestsPlace, endPlace}
+use Rattle.reader.specs.declared.Located.{Located}
+use Rattle.reader.specs.declared.Places.{Places}
+use Rattle.reader.specs.declared.Reading.{Reading}
+use Rattle.reader.specs.declared.Reading.the-variants.{Sections, Refused}
+use Rattle.reader.specs.Reader.{fileCheck, placesOf, sectionsOf, readingBy, readingOf}
+use Rattle.reader.proofs.Accepted.{counts-within, states-sound, requests-sound}
+use Rattle.writer.specs.declared.Writing.the-variants.{Length}
+use Rattle.writer.specs.Writer.{recordsIn, lengthOf, refusalOf, fileOf, writingBy, roomBy, writingOf, roomOf}
+use Rattle.writer.proofs.WriteLaws.{fits}
 use Rattle.files.specs.Held.{held, ReadsAs, WrittenAs, Writable}
-use Rattle.files.proofs.Accepted.{counts-within, states-sound, requests-sound}
-use Rattle.files.proofs.WriteLaws.{fits}
 use Rattle.files.proofs.SectionLaws.{runAt, read-each}
 use Rattle.files.proofs.FileLaws.{ProperFile, accepted-proper, proper-accepted, proper-length, read-file-proper, read-length, read-bytes, file-length, file-sound, centres-count, states-count, requests-count, centres-held, states-held, requests-held}
 

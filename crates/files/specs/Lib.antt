@@ -1,6 +1,3 @@
--- Layer 5: the element file. Read the files in this order.
-pub mod Sections
-pub mod Reader
-pub mod Writer
+-- Layer 5: the element file, read and written. Read the files in this order.
 pub mod Held
 pub mod Cases

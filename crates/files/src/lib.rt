@@ -1,4 +1,1 @@
-// Layer 5: the stations' element file, edition 1: its words, its sections, its reader and its writer.
-pub mod reader;
-pub mod sections;
-pub mod writer;
+// Layer 5: the element file, edition 1, as its reader and its writer have it: laws, and no code.

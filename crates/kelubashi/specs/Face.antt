@@ -5,10 +5,10 @@ use Prim.Native.Nat.{ℕ}
 use lib.Dec.{eqb}
 use lib.ListN.{length, getD}
 use Rattle.bits.specs.Choice.{pick}
-use Rattle.files.specs.declared.reader.Reading.{Reading}
-use Rattle.files.specs.declared.reader.Reading.the-variants as reading
-use Rattle.files.specs.declared.writer.Writing.{Writing}
-use Rattle.files.specs.declared.writer.Writing.the-variants as writing
+use Rattle.reader.specs.declared.Reading.{Reading}
+use Rattle.reader.specs.declared.Reading.the-variants as reading
+use Rattle.writer.specs.declared.Writing.{Writing}
+use Rattle.writer.specs.declared.Writing.the-variants as writing
 use Rattle.results.specs.declared.Outcome.{Outcome}
 
 -- What is returned, for an answer of n words and a run as it was handed in.

@@ -5,8 +5,8 @@ ghost use mathlib.Core.List.{[], _∷_};
 ghost use Rattle.bits.specs.Root.{rootRefusalOf, rootWordOf};
 ghost use Rattle.states.specs.Call.{answerWords, propagateOf, partialsOf, lentOf};
 ghost use Rattle.runs.specs.Words.{put};
-ghost use Rattle.files.specs.Reader.{readingOf};
-ghost use Rattle.files.specs.Writer.{writingOf, roomOf};
+ghost use Rattle.reader.specs.Reader.{readingOf};
+ghost use Rattle.writer.specs.Writer.{writingOf, roomOf};
 ghost use Rattle.results.specs.Results.{outcomeOf, resultFile};
 ghost use Rattle.kelubashi.specs.Face.{returned, written, orbitWords, lentBehind, readingWords, writingWords, outcomeWords, firstOf};
 
@@ -82,7 +82,7 @@ pub extern "C" fn kelubashi1_read(file: &[u8], answer: &mut [u64]) -> u64
     if answer.len() != 8 {
         return 60;
     }
-    let words = answers::reading_words(files::reader::read_file(file));
+    let words = answers::reading_words(reader::read_file(file));
     answers::put(&words, answer);
     words[0]
 }
@@ -101,7 +101,7 @@ pub extern "C" fn kelubashi1_write(
     if answer.len() != 2 {
         return 60;
     }
-    let words = answers::writing_words(files::writer::write_file(centres, states, requests, room));
+    let words = answers::writing_words(writer::write_file(centres, states, requests, room));
     answers::put(&words, answer);
     words[0]
 }

@@ -10,9 +10,9 @@ use Rattle.io.proofs.Counting.{counts}
 use Rattle.runs.specs.Words.{written, put}
 use Rattle.runs.proofs.WordLaws.{length-written}
 use Rattle.runs.proofs.PutLaws.{put-fits, length-put}
-use Rattle.files.specs.Reader.{readingOf}
-use Rattle.files.specs.declared.reader.Reading.{Reading}
-use Rattle.files.specs.declared.reader.Reading.the-variants.{Sections, Refused}
+use Rattle.reader.specs.Reader.{readingOf}
+use Rattle.reader.specs.declared.Reading.{Reading}
+use Rattle.reader.specs.declared.Reading.the-variants.{Sections, Refused}
 use Rattle.results.specs.Results.{resultBy, resultFile}
 use Rattle.results.proofs.Rows.{small, result-length}
 

@@ -10,9 +10,9 @@ use Rattle.states.specs.Call.{answerWords}
 use Rattle.runs.specs.Words.{written, put}
 use Rattle.runs.proofs.WordLaws.{length-written, written-append}
 use Rattle.runs.proofs.PutLaws.{put-next, put-outside, length-put}
-use Rattle.files.specs.Reader.{sectionsOf}
-use Rattle.files.specs.declared.reader.Places.{Places}
-use Rattle.files.proofs.Accepted.{counts-within}
+use Rattle.reader.specs.Reader.{sectionsOf}
+use Rattle.reader.specs.declared.Places.{Places}
+use Rattle.reader.proofs.Accepted.{counts-within}
 use Rattle.files.proofs.Laws.{accepted-sound}
 use Rattle.results.specs.Results.{Accepted, requestWords, rowOf, rowsOf, rowPlace, sectionsWords, fits}
 

@@ -17,7 +17,7 @@ use Rattle.orbits.specs.Words.{firstNotFinite, readOf}
 use Rattle.orbits.specs.Initial.{dot, begunOf, firstStepOf}
 use Rattle.states.specs.Call.{refused, answered, reachedBy, reachedFrom, reachedOrbit, reachedOf, endedAnswer, propagateOf, answerWords}
 use Rattle.runs.specs.Words.{written}
-use Rattle.files.specs.Reader.{readingOf}
+use Rattle.reader.specs.Reader.{readingOf}
 use Rattle.results.specs.Results.{tauSince, tauWord, eightWords, requestWords, rowOf, rowsOf, resultFile}
 
 -- What a case asks for: the root of a word; the coefficients at L = +0, by α and ψ; a call of eight words; the result file of an element file. All are words.

@@ -13,14 +13,14 @@ use Rattle.bits.specs.declared.words.Figure.{Figure}
 use Rattle.bits.specs.declared.words.Figure.the-variants as figure
 use Rattle.states.specs.Call.{answerWords, propagateOf}
 use Rattle.runs.specs.Words.{wordAt, written}
-use Rattle.files.specs.Sections.{widthOf}
-use Rattle.files.specs.Reader.{readingOf}
-use Rattle.files.specs.declared.sections.Section.{Section}
-use Rattle.files.specs.declared.sections.Section.the-variants.{Centres, States, Requests}
-use Rattle.files.specs.declared.reader.Located.{Located}
-use Rattle.files.specs.declared.reader.Places.{Places}
-use Rattle.files.specs.declared.reader.Reading.{Reading}
-use Rattle.files.specs.declared.reader.Reading.the-variants as reading
+use Rattle.sections.specs.Sections.{widthOf}
+use Rattle.sections.specs.declared.Section.{Section}
+use Rattle.sections.specs.declared.Section.the-variants.{Centres, States, Requests}
+use Rattle.reader.specs.Reader.{readingOf}
+use Rattle.reader.specs.declared.Located.{Located}
+use Rattle.reader.specs.declared.Places.{Places}
+use Rattle.reader.specs.declared.Reading.{Reading}
+use Rattle.reader.specs.declared.Reading.the-variants as reading
 use Rattle.results.specs.declared.Outcome.{Outcome}
 
 -- A file whose sections stand at these places.

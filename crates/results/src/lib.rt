@@ -2,16 +2,14 @@
 ghost use mathlib.Core.Path.{_≡_};
 ghost use mathlib.Core.List.{[], _∷_};
 ghost use Prim.Native.Nat.{_+_, _*_, _^_, _<_, _≤_};
-ghost use lib.Ieee.{binary64, toBits};
 ghost use lib.ListN.{length};
 ghost use Rattle.runs.specs.Words.{written, put};
-ghost use Rattle.files.specs.Reader.{readingOf};
 ghost use Rattle.results.specs.Results.{Accepted, tauWord, tauSince, eightWords, requestWords, rowOf, rowPlace, rowsOf, sectionsWords, resultFile, fits, outcomeOf};
 use bits::words::Figure;
 use bits::words::figure_of;
 use bits::words::word_of;
-use files::reader::Places;
-use files::reader::Reading;
+use reader::Places;
+use reader::Reading;
 use runs::put_words;
 use runs::word_at;
 
@@ -139,7 +137,7 @@ fn write_refused(number: u64, room: &mut [u8]) -> Outcome
 pub fn write_results(file: &[u8], room: &mut [u8]) -> Outcome
     ensures { λ r. ⌜ (r ≡ outcomeOf (now (file .entry)) (now (room .entry))) × (now (room .exit) ≡ put (now (room .entry)) 0 (resultFile (now (file .entry)))) ⌝ }
 {
-    match files::reader::read_file(file) {
+    match reader::read_file(file) {
         Reading::Sections(places) => write_accepted(file, places, room),
         Reading::Refused { number, place: _ } => write_refused(number, room),
     }

@@ -5,7 +5,7 @@ use mathlib.Core.Path.{_≡_, sym, ap, _∙_}
 use native.Mathlib.Omega.{arith}
 use lib.ListN.{length}
 use Rattle.runs.specs.Words.{written, put}
-use Rattle.files.specs.declared.reader.Places.{Places}
+use Rattle.reader.specs.declared.Places.{Places}
 use Rattle.runs.proofs.PutLaws.{put-nothing}
 use Rattle.results.proofs.Rows.{row-after, room-length}
 use Rattle.results.specs.Results.{requestWords, rowOf, rowsOf, rowPlace}

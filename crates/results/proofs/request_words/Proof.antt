@@ -5,7 +5,7 @@ use mathlib.Core.List.{List}
 use native.Mathlib.Omega.{arith}
 use borrow.Author.Needs.{needs}
 use Rattle.runs.specs.Words.{wordAt}
-use Rattle.files.specs.declared.reader.Places.{Places}
+use Rattle.reader.specs.declared.Places.{Places}
 use Rattle.files.proofs.Laws.{centre-of-state, state-of-request}
 use Rattle.results.proofs.Rows.{small}
 use Rattle.results.specs.Results.{Accepted, eightWords, requestWords}

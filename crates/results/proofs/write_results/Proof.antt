@@ -2,7 +2,7 @@
 use mathlib.Core.Path.{sym, _∙_, ap}
 use borrow.Author.Needs.{needs}
 use Rattle.runs.specs.Words.{written, put}
-use Rattle.files.specs.declared.reader.Reading.{Reading}
+use Rattle.reader.specs.declared.Reading.{Reading}
 use Rattle.results.specs.Results.{resultBy, resultFile, fits}
 use Rattle.results.proofs.write_results.Statement.{statement}
 use Rattle.results.proofs.write_results.Tie as tie

@@ -1,0 +1,2 @@
+-- Layer 5: the reader of the element file.
+pub mod Reader

@@ -1,0 +1,2 @@
+-- Layer 5: the sections of the element file.
+pub mod Sections

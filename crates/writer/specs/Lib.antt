@@ -1,0 +1,2 @@
+-- Layer 5: the writer of the element file.
+pub mod Writer
