@@ -2,7 +2,7 @@
 # make state    one state of an orbit through the C library: make state STATE='MU X Y Z VX VY VZ TAU'
 # make check    all that must hold; ends in rt ci, whose last line is 'N passed, 0 failed'
 # make test     the C tests alone
-# make wrong    more wrong programs that the prover has to refuse, beside those of the gate
+# make wrong    the second wrong programs of each promise, which the prover has to refuse, beside those of the gate
 # make fuzz     the library against the second program, as long as told: make fuzz N=1000000 SEED=7
 # make bench    instructions per call (and time on x86-64) beside plain C of the same rules: see bench/README.md
 # make program  build/propagate, the program, for x86-64, proved
@@ -30,7 +30,7 @@ BESIDE = bench/plain.c bench/plain_root.c bench/plain_search.c bench/plain_resul
 # One step at a time, in the order written: what is cheap to find wrong comes before what takes minutes.
 .NOTPARALLEL:
 .PHONY: run state check test wrong fuzz bench program lib install install-files clean
-.PHONY: kit layout machine header edition readme selfcheck installed tried
+.PHONY: kit layout map machine header edition readme selfcheck installed tried
 
 # What make run shows.
 ELEMENTS = examples/orbits.elements
@@ -42,7 +42,7 @@ run: program build/host/show
 state: build/host/propagate
 	@$(X86) run $< $(STATE)
 
-check: layout test
+check: layout map test
 	@rt ci
 
 # The program before the library, since rt then proves side by side what both rest on.
@@ -107,6 +107,9 @@ kit:
 
 layout: kit
 	@rt fmt --check || { echo 'layout: run rt fmt, and look at what it changed'; exit 1; }
+
+map:
+	@sh tests/map.sh
 
 machine:
 	@$(X86) ready
