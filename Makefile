@@ -3,7 +3,7 @@
 # make check    all that must hold; ends in rt ci, whose last line is 'N passed, 0 failed'
 # make test     the C tests alone
 # make wrong    the second wrong programs of each promise, which the prover has to refuse, beside those of the gate
-# make fuzz     the library against the second program, as long as told: make fuzz N=1000000 SEED=7
+# make fuzz     the library against the second program, by families and guided, as long as told: make fuzz N=1000000 SEED=7
 # make bench    instructions per call (and time on x86-64) beside plain C of the same rules: see bench/README.md
 # make program  build/propagate, the program, for x86-64, proved
 # make lib      build/libkelubashi.a, for x86-64, from proved crates only
@@ -12,16 +12,21 @@
 
 X86 = sh tests/machine.sh
 STRICT = -std=c99 -Wall -Wextra -pedantic -Werror -O2 -ffp-contract=off
-TESTS = $(COMPARISONS) build/tests/second/selftest build/tests/root build/tests/cases build/tests/case_files
+TESTS = $(COMPARISONS) build/tests/second/selftest $(GUIDED) build/tests/root build/tests/cases build/tests/case_files
 
 # The library against the second program: states and partials, then files.
 COMPARISONS = build/tests/propagate build/tests/files
 
-# What make fuzz runs, for how many inputs each, of which seed, and from which number on.
-FUZZ = $(COMPARISONS)
+# The same on inputs that find their own way, by those before them.
+GUIDED = build/tests/guided
+
+# What make fuzz runs, for how many inputs each, of which seed, and, in the comparisons, from which number on;
+# or one INPUT that the guided program told.
+FUZZ = $(if $(INPUT),,$(COMPARISONS)) $(GUIDED)
 N = 1000000
 SEED := $(shell date +%s)
 FIRST = 0
+INPUT =
 
 # The table's rows.
 BENCH = root propagate partials results
@@ -53,8 +58,9 @@ wrong: kit
 	@sh tests/wrong.sh
 
 fuzz: machine $(FUZZ)
-	@echo 'fuzz: $(N) inputs of seed $(SEED) each, from number $(FIRST) on, to: $(FUZZ)'
-	@for test in $(FUZZ); do $(X86) run "$$test" $(N) $(SEED) $(FIRST) || exit 1; done
+	@echo 'fuzz: $(if $(INPUT),$(INPUT),$(N) inputs of seed $(SEED) each, from number $(FIRST) on), to: $(strip $(FUZZ))'
+	@for test in $(filter-out $(GUIDED),$(FUZZ)); do $(X86) run "$$test" $(N) $(SEED) $(FIRST) || exit 1; done
+	@for test in $(filter $(GUIDED),$(FUZZ)); do $(X86) run "$$test" $(or $(INPUT),$(N) $(SEED)) || exit 1; done
 
 bench: machine $(BENCH:%=build/bench/%)
 	@sh bench/run.sh $(BENCH)
@@ -133,13 +139,17 @@ tried: machine program build/host/elements build/host/show build/tests/second_re
 	@sh tests/program.sh
 
 SECOND = $(patsubst %,build/tests/second/%.o,root series search states files)
+TRACED = $(SECOND:build/tests/second/%=build/tests/traced/%)
 SELFTEST = $(patsubst %,build/tests/second/selftest%.o,_root _calls _orbits _files)
 HEADERS = include/kelubashi.h $(wildcard host/*.h tests/*.h tests/second/*.h)
 
 build/host/propagate: build/host/selfcheck.o
 build/tests/case_files: build/tests/expected.o
-build/tests/propagate: $(patsubst %,build/tests/%.o,drive orbits aimed aimed_search inputs aims) $(SECOND)
-build/tests/files: $(patsubst %,build/tests/%.o,drive orbits sections damaged lent) $(SECOND)
+ASK_STATES = $(patsubst %,build/tests/%.o,drive orbits aimed aimed_search inputs ask_state)
+ASK_FILES = $(patsubst %,build/tests/%.o,drive orbits sections damaged lent ask_file)
+build/tests/propagate: $(ASK_STATES) build/tests/aims.o $(SECOND)
+build/tests/files: $(ASK_FILES) $(SECOND)
+$(GUIDED): $(ASK_STATES) $(ASK_FILES) $(patsubst %,build/tests/%.o,edges corpus packed changes changes_file) $(TRACED)
 
 # These read and write words alone, with the header and without the library.
 build/host/show build/host/elements: build/host/%: host/%.c include/kelubashi.h | machine
@@ -160,6 +170,11 @@ build/tests/second/selftest: build/tests/second/selftest.o $(SELFTEST) $(SECOND)
 
 build/tests/second_results: build/tests/second_results.o $(SECOND) | machine
 	@$(X86) compile $(STRICT) -o $@ $^ -lm
+
+# Once more, with a call in every block that tells the guided program where it is.
+build/tests/traced/%.o: tests/second/%.c $(HEADERS) | machine
+	@mkdir -p $(@D)
+	@$(X86) compile $(STRICT) -fsanitize-coverage=trace-pc -c -o $@ $<
 
 build/%.o: %.c $(HEADERS) | machine
 	@mkdir -p $(@D)

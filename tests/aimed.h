@@ -17,6 +17,7 @@ void not_finite(uint64_t *words);
 void small_sum(uint64_t *words);
 void large_figures(uint64_t *words);
 void sigma_alone(uint64_t *words);
+void length_one(uint64_t *words);
 void all_short(uint64_t *words);
 void far_out(uint64_t *words);
 void infinite_error(uint64_t *words);

@@ -9,6 +9,19 @@
 
 static const double at_rest[3];
 
+/* "While |L| > 1": alpha is a power of 4 and H one of 2, so that |L| is 1 or another power of 4 at every outward point. */
+void length_one(uint64_t *words)
+{
+    int q = any_from(-20, 20), n = any_from(-20, 20);
+    double r = ldexp(1.0, q), alpha = any_sign(ldexp(1.0, 2 * n));
+    double speed = one_in(3) ? 0.0 : ldexp(1.0, any_from(n - 10, n + 10));
+    double position[3] = { 0, 0, 0 }, velocity[3] = { 0, 0, 0 };
+
+    position[any_below(3)] = any_sign(r);
+    velocity[any_below(3)] = any_sign(speed);
+    put(words, (speed * speed - alpha) * r / 2, position, velocity, any_sign(ldexp(r, any_from(0, 3) - n)));
+}
+
 /*
 **  Refusal 5. With psi below 2^-358 the cube of psi vanishes and takes the term in mu along; with L
 **  below -2^40 at the last point c1 is small enough for r0 s1 to stay short there too.

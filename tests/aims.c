@@ -12,7 +12,7 @@
 enum aim {
     SUM, SIGMA, SPEED, PULL, ALPHA, INTERVAL,
     SUBNORMAL_H, H_AT_ZERO, ALPHA_ZERO,
-    L_NOT_FINITE, R_NAN, R_SHORT, R_PAST, READABLE_NO_MORE,
+    L_AT_ONE, L_NOT_FINITE, R_NAN, R_SHORT, R_PAST, READABLE_NO_MORE,
     FOUND_AT_ZERO, FOUND_AT_MINUS_ZERO, EXACT_OUTWARD, EXACT_INWARD,
     NOT_ABOVE, INFINITE_RADIUS, START_ACCELERATION, PARTIALS_ONLY,
     AIMS
@@ -21,7 +21,7 @@ enum aim {
 static const char *const names[AIMS] = {
     "4 by the sum alone", "4 by sigma0 alone", "4 by v squared", "4 by (2 mu)/r0", "4 by alpha alone", "4 by H alone",
     "subnormal H", "H at place 0", "alpha zero",
-    "L not finite", "R NaN", "R infinite and short", "R infinite and past", "6 after a past point",
+    "L of size 1", "L not finite", "R NaN", "R infinite and short", "R infinite and past", "6 after a past point",
     "psi +0 for a tau above zero", "psi -0 for a tau below zero", "exact outward", "exact inward",
     "7 by r at zero or below", "an infinite r answered", "8 with no start acceleration", "8 by the partials only",
 };
@@ -70,6 +70,7 @@ static int see_outward(const struct start *s)
             seen[L_NOT_FINITE]++;
             return 2;
         }
+        seen[L_AT_ONE] += sec_size(sec_length(s, psi)) == 1;
         error = sec_figures(s, psi).error;
         if (sec_nan(error)) {
             seen[R_NAN]++;

@@ -2,6 +2,9 @@
 #include "drive.h"
 #include "sections.h"
 
+#include <inttypes.h>
+#include <stdio.h>
+
 /* The small file of the lists: 2 centres, 2 states and 3 requests. */
 #define SMALL_WORDS (4 + 2 + 2 * STATE + 3 * REQUEST)
 
@@ -133,7 +136,7 @@ static void small_words(struct file *f, uint64_t turn)
         add_word(f, any_below(4));
 }
 
-const struct family families[] = {
+static const struct file_family families[] = {
     { "sound files", 16, NULL, sound_file },
     { "cuts", 10, NULL, cut },
     { "bytes behind", 6, NULL, longer },
@@ -150,20 +153,32 @@ const struct family families[] = {
     { "counts to write at the limits", 1, limits, NULL },
 };
 
-const size_t family_count = sizeof families / sizeof families[0];
+#define FAMILIES (sizeof families / sizeof families[0])
 
-size_t family_of(uint64_t number, uint64_t *turn)
+static uint64_t seen[FAMILIES];
+
+const struct file_family *file_family(uint64_t number, uint64_t *turn)
 {
     static uint64_t shares;
     uint64_t rest;
     size_t i;
 
     if (shares == 0)
-        for (i = 0; i < family_count; i++)
+        for (i = 0; i < FAMILIES; i++)
             shares += families[i].share;
     rest = number % shares;
     for (i = 0; rest >= families[i].share; i++)
         rest -= families[i].share;
     *turn = number / shares * families[i].share + rest;
-    return i;
+    seen[i]++;
+    return &families[i];
+}
+
+void file_families_tell(void)
+{
+    size_t i;
+
+    for (i = 0; i < FAMILIES; i++)
+        printf("%s %s %" PRIu64, i ? "," : " ", families[i].name, seen[i]);
+    printf("\n");
 }

@@ -12,6 +12,12 @@
 
 static const char *drive_name;
 static uint64_t usual, total, seed, first, done, state;
+static void (*own_progress)(void), (*own_repeat)(void);
+
+void draw_from(uint64_t word)
+{
+    state = word;
+}
 
 uint64_t any_word(void)
 {
@@ -46,17 +52,28 @@ uint64_t drive_seed(void)
     return seed;
 }
 
-int drive_whole(void)
+void drive_own(void (*progress)(void), void (*repeat)(void))
 {
-    return first == 0 && total >= usual;
+    own_progress = progress;
+    own_repeat = repeat;
 }
 
 static void repeat(void)
 {
+    if (own_repeat != NULL) {
+        own_repeat();
+        fflush(stdout);
+        return;
+    }
     printf("%s: repeat it with: make fuzz FUZZ=build/tests/%s N=1 SEED=%" PRIu64 " FIRST=%" PRIu64
            "; document 01 decides who is wrong\n",
            drive_name, drive_name, seed, first + done - 1);
     fflush(stdout);
+}
+
+void drive_found(const char *what, const char *family)
+{
+    printf("\n%s: %s, of the family %s\n", drive_name, what, family);
 }
 
 void drive_differs(void)
@@ -81,7 +98,8 @@ static uint64_t number_of(const char *word)
     errno = 0;
     number = strtoull(word, &end, 10);
     if (*word < '0' || *word > '9' || *end != '\0' || errno != 0) {
-        fprintf(stderr, "%s: %s is no whole number: give %s [N [SEED [FIRST]]]\n", drive_name, word, drive_name);
+        fprintf(stderr, "%s: %s is no whole number: give %s [N [SEED%s]]\n", drive_name, word, drive_name,
+                own_repeat == NULL ? " [FIRST]" : "");
         exit(EXIT_FAILURE);
     }
     return number;
@@ -107,19 +125,37 @@ static void tell_progress(void)
 
     if (told != 0 && now - told < QUIET_SECONDS)
         return;
-    if (told != 0)
-        fprintf(stderr, "%s: %" PRIu64 " of %" PRIu64 ", none differs yet\n", drive_name, done, total);
+    if (told != 0) {
+        fprintf(stderr, "%s: %" PRIu64 " of %" PRIu64 ", none differs yet", drive_name, done, total);
+        if (own_progress != NULL)
+            own_progress();
+        fprintf(stderr, "\n");
+    }
     told = now;
 }
 
-int drive_next(uint64_t *number)
+/* The next input's number, with the sequence of words set to it; 0 when all are done. */
+static int next(uint64_t *number)
 {
     if (done == total)
         return 0;
     if (done % 256 == 0)
         tell_progress();
     *number = first + done++;
-    state = seed;
-    state = any_word() ^ *number;
+    draw_from(seed);
+    draw_from(any_word() ^ *number);
     return 1;
+}
+
+int drive_all(void (*compare)(uint64_t number), int (*tell)(void), const char *hint)
+{
+    uint64_t number;
+
+    while (next(&number))
+        compare(number);
+    if (tell() && first == 0 && total >= usual) {
+        printf("%s: %s\n", drive_name, hint);
+        return EXIT_FAILURE;
+    }
+    return EXIT_SUCCESS;
 }

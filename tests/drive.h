@@ -5,26 +5,41 @@
 **     PROGRAM [N [SEED [FIRST]]]        N inputs of the seed, from number FIRST on
 **
 **  An input follows from the seed and its own number alone, so one is repeated without those
-**  before it.
+**  before it. A program whose inputs do not has a line of its own that repeats one.
 */
 #ifndef DRIVE_H
 #define DRIVE_H
 
 #include <stdint.h>
 
+/*
+**  Before the start, for a program with a line of its own and no FIRST: what it adds to a line of progress on
+**  stderr, and how it prints the line that repeats the input.
+*/
+void drive_own(void (*progress)(void), void (*repeat)(void));
+
 /* Takes the words of the command; ends the program where they are no such words. */
 void drive_start(const char *name, uint64_t usual_count, int count, char **words);
 
-/* The next input's number, with the sequence of words set to it; 0 when all are done. */
-int drive_next(uint64_t *number);
+/*
+**  All inputs, each by its number with the sequence of words set to it; then tell prints what was met
+**  and answers how much was not, which is a fault of a whole usual run, and the hint says what to do.
+**  Answers how the program ends.
+*/
+int drive_all(void (*compare)(uint64_t number), int (*tell)(void), const char *hint);
 
-/* Inputs that this run takes, and whether it takes all of a usual run. */
+/* Inputs that this run takes, and their seed. */
 uint64_t drive_count(void);
 uint64_t drive_seed(void);
-int drive_whole(void);
+
+/* The line that begins a disagreement. */
+void drive_found(const char *what, const char *family);
 
 /* After the lines that tell what differs: the command that repeats it; ends the program. */
 void drive_differs(void);
+
+/* Begins the sequence of words anew, from this one. */
+void draw_from(uint64_t word);
 
 /* The next word of the input's own sequence (splitmix64), and others made of it. */
 uint64_t any_word(void);

@@ -3,7 +3,10 @@
 #include "aimed.h"
 #include "orbits.h"
 
-const struct family families[] = {
+#include <inttypes.h>
+#include <stdio.h>
+
+static const struct state_family families[] = {
     { "ellipses", 10, 0, ellipse },
     { "long ellipses", 4, 1, long_ellipse },
     { "near-parabolas", 6, 0, near_parabola },
@@ -23,6 +26,7 @@ const struct family families[] = {
     { "small sums", 2, 1, small_sum },
     { "large figures", 3, 1, large_figures },
     { "sigma0 alone", 1, 1, sigma_alone },
+    { "L at 1", 2, 1, length_one },
     { "all short", 2, 1, all_short },
     { "far out", 2, 1, far_out },
     { "infinite R", 3, 1, infinite_error },
@@ -36,19 +40,31 @@ const struct family families[] = {
     { "partials alone", 3, 1, partials_alone },
 };
 
-const size_t family_count = sizeof families / sizeof families[0];
+#define FAMILIES (sizeof families / sizeof families[0])
 
-size_t family_of(uint64_t number)
+static uint64_t seen[FAMILIES];
+
+const struct state_family *state_family(uint64_t number)
 {
     static uint64_t shares;
     uint64_t turn;
     size_t i;
 
     if (shares == 0)
-        for (i = 0; i < family_count; i++)
+        for (i = 0; i < FAMILIES; i++)
             shares += families[i].share;
     turn = number % shares;
     for (i = 0; turn >= families[i].share; i++)
         turn -= families[i].share;
-    return i;
+    seen[i]++;
+    return &families[i];
+}
+
+void state_families_tell(void)
+{
+    size_t i;
+
+    for (i = 0; i < FAMILIES; i++)
+        printf("%s %s %" PRIu64, i ? "," : " ", families[i].name, seen[i]);
+    printf("\n");
 }

@@ -4,20 +4,19 @@
 #ifndef INPUTS_H
 #define INPUTS_H
 
-#include <stddef.h>
 #include <stdint.h>
 
-struct family {
+struct state_family {
     const char *name;
     unsigned share;     /* of every hundred inputs or so */
     int aimed;     /* whether its aims are looked at */
     void (*make)(uint64_t *words);
 };
 
-extern const struct family families[];
-extern const size_t family_count;
-
 /* The family of an input; it goes by the number, so that every run of some length has all. */
-size_t family_of(uint64_t number);
+const struct state_family *state_family(uint64_t number);
+
+/* Prints how many inputs each was asked for. */
+void state_families_tell(void);
 
 #endif

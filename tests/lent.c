@@ -42,14 +42,13 @@ uint8_t *room_of(struct given *g)
     return g->room_length ? g->room + EDGE : NULL;
 }
 
-static void print_bytes(const char *before, const uint8_t *bytes, size_t length)
+static void print_bytes(const uint8_t *bytes, size_t length, size_t most)
 {
     size_t i;
 
-    printf("%s", before);
-    for (i = 0; i < length && i < 512; i++)
+    for (i = 0; i < length && i < most; i++)
         printf("%s%02X", i % 8 == 0 ? " " : "", (unsigned)bytes[i]);
-    printf("%s\n", length > 512 ? " and more" : "");
+    printf("%s\n", length > most ? " and more" : "");
 }
 
 static void print_run(const char *name, const uint64_t *run, size_t words)
@@ -57,16 +56,17 @@ static void print_run(const char *name, const uint64_t *run, size_t words)
     size_t i;
 
     printf("  %s, %zu words:", name, words);
-    for (i = 0; i < words && i < 64; i++)
+    for (i = 0; i < words; i++)
         printf(" %016" PRIX64, run[i]);
-    printf("%s\n", words > 64 ? " and more" : "");
+    printf("\n");
 }
 
+/* In full: a comparison may have no other way to tell it. */
 static void print_input(void)
 {
     if (its_file != NULL) {
         printf("  the file, %zu bytes:", its_file->length);
-        print_bytes("", its_file->bytes, its_file->length);
+        print_bytes(its_file->bytes, its_file->length, its_file->length);
         return;
     }
     print_run("centres", its_sections->centres, its_sections->centre_words);
@@ -82,15 +82,17 @@ static void print_given(const char *whose, const struct given *g, size_t from)
     for (i = 1; i <= READ; i++)
         printf(" %" PRIX64, g->answer[i]);
     printf(" hex\n");
-    if (from < end)
-        print_bytes("    room from there on:", g->room + from, end - from);
+    if (from < end) {
+        printf("    room from there on:");
+        print_bytes(g->room + from, end - from, 512);
+    }
 }
 
 void differs(const char *what)
 {
     size_t at = 0, end = library.room_length + 2 * EDGE;
 
-    printf("\nfiles: %s, of the family %s\n", what, its_family);
+    drive_found(what, its_family);
     print_input();
     while (at < end && library.room[at] == second.room[at])
         at++;

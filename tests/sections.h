@@ -31,18 +31,18 @@ struct file {
 
 /* A family makes sections, for the writer, or a file, for the reader and the results; the turn counts
    its inputs, so that a list is gone through in order. */
-struct family {
+struct file_family {
     const char *name;
     unsigned share;     /* of every hundred inputs or so */
     void (*sections)(struct sections *sections, uint64_t turn);
     void (*file)(struct file *file, uint64_t turn);
 };
 
-extern const struct family families[];
-extern const size_t family_count;
-
 /* The family of an input and its turn, which go by the input's number. */
-size_t family_of(uint64_t number, uint64_t *turn);
+const struct file_family *file_family(uint64_t number, uint64_t *turn);
+
+/* Prints how many inputs each was asked for. */
+void file_families_tell(void);
 
 uint64_t word_at(const struct file *file, size_t place);
 void put_word(struct file *file, size_t place, uint64_t word);

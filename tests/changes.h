@@ -1,0 +1,18 @@
+/*
+**  How an input of the guided comparison is changed into another.
+*/
+#ifndef CHANGES_H
+#define CHANGES_H
+
+#include "packed.h"
+
+/* In one or more ways; another input of its kind lends a part at times. */
+void change(enum kind kind, struct file *input, const struct file *other);
+
+/* One change of a file or of sections, in its bytes, words or records. */
+void change_bytes(enum kind kind, struct file *input, const struct file *other);
+
+/* Another word: near it in some way, a special one, or any. */
+uint64_t changed(uint64_t word);
+
+#endif
