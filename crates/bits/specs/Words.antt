@@ -1,7 +1,8 @@
 -- The words of doubles. Document 01: "Doubles are told apart by exponent field: 0 is zero or subnormal, 1 to 2046 normal, 2047 not finite."
 use Prim.Native.Nat.{ℕ, zero, suc, _+_, _*_, _/_, _%_, _^_}
+use mathlib.Core.List.{List, map}
 use lib.Dec.{eqb, leb}
-use lib.Ieee.{binary64, ofBits}
+use lib.Ieee.{Float, binary64, ofBits, toBits}
 use Rattle.bits.specs.Choice.{pick}
 use Rattle.bits.specs.declared.words.Kind.{Kind}
 use Rattle.bits.specs.declared.words.Kind.the-variants as kind
@@ -45,3 +46,7 @@ scaled (suc x) t = (2 ^ 52 + t) * 2 ^ x
 
 unfoldable pub units : ℕ → ℕ
 units w = scaled (w / 2 ^ 52) (w % 2 ^ 52)
+
+-- The words of a run of doubles.
+abbrev pub wordsOf : List Float → List ℕ
+wordsOf xs = map (toBits binary64) xs

@@ -3,7 +3,8 @@
 ghost use mathlib.Core.Path.{_≡_};
 ghost use mathlib.Core.List.{[], _∷_};
 ghost use Rattle.bits.specs.Root.{rootRefusalOf, rootWordOf};
-ghost use Rattle.states.specs.Call.{answerWords, propagateOf, partialsOf, lentOf};
+ghost use Rattle.states.specs.Call.{answerWords, propagateOf};
+ghost use Rattle.calls.specs.WithPartials.{partialsOf, lentOf};
 ghost use Rattle.runs.specs.Words.{put};
 ghost use Rattle.reader.specs.Reader.{readingOf};
 ghost use Rattle.writer.specs.Writer.{writingOf, roomOf};
@@ -68,7 +69,7 @@ pub extern "C" fn kelubashi1_partials(
     if answer.len() != 15 {
         return 60;
     }
-    let a = states::call::propagate_with_partials([mu, x, y, z, vx, vy, vz, tau], run);
+    let a = calls::propagate_with_partials([mu, x, y, z, vx, vy, vz, tau], run);
     let words = states::answer::words_of(a);
     answers::put(&words, answer);
     a.refusal

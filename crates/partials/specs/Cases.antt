@@ -5,7 +5,7 @@ use lib.Ieee.{add, sub, mul, div, neg, ofBits, toBits}
 use Rattle.arcs.specs.Cases.{arc}
 use Rattle.matrix.specs.Matrix.{uOf, matrixOf}
 use Rattle.partials.specs.Entries.{plusOf, minusOf, unitOf, componentOf, entryOf, firstOf, entriesOf}
-use Rattle.partials.specs.Partials.{wordsOf}
+use Rattle.bits.specs.Words.{wordsOf}
 
 its-partials :
     wordsOf (entriesOf arc)

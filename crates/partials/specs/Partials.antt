@@ -1,18 +1,14 @@
 -- Document 01: "The 36 partials go to a lent run", as words, with the partials' part of refusals 1 and 8.
-use mathlib.Core.List.{List, map}
+use mathlib.Core.List.{List}
 use Prim.Native.Nat.{ℕ}
 use lib.Dec.{eqb}
-use lib.Ieee.{Float, binary64, toBits}
 use lib.ListN.{length}
+use Rattle.bits.specs.Words.{wordsOf}
 use Rattle.bits.specs.Choice.{pick}
 use Rattle.arcs.specs.Finite.{allFinite, anyZero}
 use Rattle.arcs.specs.declared.figures.Arc.{Arc}
 use Rattle.matrix.specs.Matrix.{divisorsOf}
 use Rattle.partials.specs.Entries.{entriesOf}
-
--- Their words, which the run is to hold.
-abbrev pub wordsOf : List Float → List ℕ
-wordsOf xs = map (toBits binary64) xs
 
 -- Refusal 1: "the lent run isn't exactly 36 long". Refusal 8, of "the partials' own divisors and figures".
 unfoldable pub refusalOf : Arc → List ℕ → ℕ

@@ -3,6 +3,7 @@ use mathlib.Core.Path.{_≡_, refl}
 use mathlib.Core.List.{List, [], _∷_, map}
 use Prim.Native.Nat.{ℕ}
 use lib.Ieee.{binary64, add, sub, mul, div, neg, lt, eq, ne, ofBits, toBits}
+use Rattle.bits.specs.Words.{wordsOf}
 use Rattle.bits.specs.Root.{rootRefusalOf, rootWordOf, rootOf}
 use Rattle.series.specs.declared.figures.Coefficients.{Coefficients}
 use Rattle.series.specs.Series.{beyondOne, reducedFrom, nested, c4Of, c5Of, atReduced, doublings, quotientsOf, coefficientsOf, sumsOf}
@@ -12,7 +13,6 @@ use Rattle.history.specs.History.{onward, outward, halving, round, inward, hist
 use Rattle.search.specs.Search.{searchOf}
 use Rattle.arcs.specs.Finite.{allFinite, anyZero}
 use Rattle.arcs.specs.Results.{factorsOf, endOf, arcOf, accelerationOf, resultsOf, divisorsOf, figuresOf, endedOf}
-use Rattle.partials.specs.Partials.{wordsOf}
 use Rattle.orbits.specs.Words.{firstNotFinite, readOf}
 use Rattle.orbits.specs.Initial.{dot, begunOf, firstStepOf}
 use Rattle.states.specs.Call.{refused, answered, reachedBy, reachedFrom, reachedOrbit, reachedOf, endedAnswer, propagateOf, answerWords}

@@ -1,3 +1,2 @@
--- The laws of this layer: what the calls promise, and what each function leaves open.
-pub mod Demand
+-- What each public function leaves open.
 pub mod OneAnswers

@@ -1,11 +1,10 @@
--- Document 01, "Refusals in order of checking", for the two calls: "A refusal carries the trial points used so far (0 for 1 to 4 and 9), all other figures +0;
--- lent memory keeps its bytes. The first that applies is given, and none otherwise."
+-- Document 01, "Refusals in order of checking", for the call without partials and what the two calls share: "A refusal carries the trial points used so far (0
+-- for 1 to 4 and 9), all other figures +0; lent memory keeps its bytes. The first that applies is given, and none otherwise."
 use mathlib.Core.List.{List, _∷_}
 use Prim.Native.Nat.{ℕ}
-use lib.Dec.{eqb}
-use lib.ListN.{length}
 use Rattle.bits.specs.Choice.{pick}
 use Rattle.bits.specs.Arithmetic.{n0, isFinite}
+use Rattle.bits.specs.Words.{wordsOf}
 use Rattle.series.specs.declared.figures.Seconds.{Seconds}
 use Rattle.search.specs.Search.{searchOf}
 use Rattle.points.specs.declared.figures.Initial.{Initial}
@@ -14,11 +13,9 @@ use Rattle.search.specs.declared.figures.Answer.the-variants as found
 use Rattle.arcs.specs.Results.{arcOf, figuresOf, endedOf}
 use Rattle.arcs.specs.declared.figures.Vector.{Vector}
 use Rattle.arcs.specs.declared.figures.State.{State}
-use Rattle.arcs.specs.declared.figures.Arc.{Arc}
 use Rattle.arcs.specs.declared.figures.Results.{Results}
 use Rattle.arcs.specs.declared.figures.Ended.{Ended}
 use Rattle.arcs.specs.declared.figures.Ended.the-variants as ended
-use Rattle.partials.specs.Partials.{wordsOf, refusalOf, lentAfter}
 use Rattle.orbits.specs.Words.{readOf}
 use Rattle.orbits.specs.Initial.{begunOf, firstStepOf}
 use Rattle.orbits.specs.declared.figures.Orbit.{Orbit}
@@ -82,40 +79,12 @@ unfoldable pub endedAnswer : (points : ℕ) → Ended → Answer
 endedAnswer n (ended.Results r) = answered n r
 endedAnswer n (ended.Refused k) = refused k n
 
--- ---- The call without partials.
 abbrev pub answerBy : Reached → Answer
 answerBy (reached.End arc n) = endedAnswer n (endedOf arc)
 answerBy (reached.Refused k n) = refused k n
 
 unfoldable pub propagateOf : List ℕ → Answer
 propagateOf words = answerBy (reachedOf words)
-
--- ---- The call with partials, and what the lent run holds afterwards. Where nothing else is refused, refusal 8 by the partials' own divisors and figures.
-unfoldable pub withPartials : Arc → (points : ℕ) → Results → List ℕ → Answer
-withPartials arc n r run = pick (eqb (refusalOf arc run) 0) (answered n r) (refused (refusalOf arc run) n)
-
-abbrev pub endedWith : Arc → (points : ℕ) → Ended → List ℕ → Answer
-endedWith arc n (ended.Results r) run = withPartials arc n r run
-endedWith arc n (ended.Refused k) run = refused k n
-
-abbrev pub lentEnded : Arc → Ended → List ℕ → List ℕ
-lentEnded arc (ended.Results r) run = lentAfter arc run
-lentEnded arc (ended.Refused k) run = run
-
-abbrev pub partialsBy : Reached → List ℕ → Answer
-partialsBy (reached.End arc n) run = endedWith arc n (endedOf arc) run
-partialsBy (reached.Refused k n) run = refused k n
-
-abbrev pub lentBy : Reached → List ℕ → List ℕ
-lentBy (reached.End arc n) run = lentEnded arc (endedOf arc) run
-lentBy (reached.Refused k n) run = run
-
--- Refusal 1, before all others: "partials are asked for and the lent run isn't exactly 36 long".
-unfoldable pub partialsOf : List ℕ → List ℕ → Answer
-partialsOf words run = pick (eqb (length run) 36) (partialsBy (reachedOf words) run) (refused 1 0)
-
-unfoldable pub lentOf : List ℕ → List ℕ → List ℕ
-lentOf words run = pick (eqb (length run) 36) (lentBy (reachedOf words) run) run
 
 -- ---- An answer as words: refusal, points, position, velocity, end acceleration, start acceleration, ψ.
 unfoldable pub answerWords : Answer → List ℕ

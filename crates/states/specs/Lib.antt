@@ -1,3 +1,2 @@
--- Layer 4: from eight words to an answer. Read the files in this order.
+-- Layer 4: from eight words to an answer.
 pub mod Call
-pub mod Demand

@@ -1,11 +1,8 @@
-// The two calls of the propagator: refusals in order of checking, and the answer.
+// The call without partials, and what the two calls share: refusals in order of checking, and the answer.
 ghost use mathlib.Core.Path.{_≡_};
-ghost use Rattle.arcs.specs.Results.{endedOf};
-ghost use Rattle.partials.specs.Partials.{lentAfter};
-ghost use Rattle.states.specs.Call.{refused, answered, reachedBy, reachedFrom, reachedOrbit, reachedOf, endedAnswer, propagateOf, withPartials, endedWith, lentEnded, partialsOf, lentOf};
+ghost use Rattle.states.specs.Call.{refused, answered, reachedBy, reachedFrom, reachedOrbit, reachedOf, endedAnswer, propagateOf};
 use super::figures::Answer;
 use super::figures::Reached;
-use arcs::figures::Arc;
 use arcs::figures::Ended;
 use arcs::figures::Results;
 use arcs::figures::State;
@@ -20,7 +17,7 @@ use series::Anomaly;
 use series::Seconds;
 
 // A refusal: its number, the points used so far, and +0 for every other figure.
-fn refused_with(refusal: u64, points: u64) -> Answer
+pub fn refused_with(refusal: u64, points: u64) -> Answer
     ensures { λ r. ⌜ r ≡ refused refusal points ⌝ }
 {
     let nothing = Vector {
@@ -46,7 +43,7 @@ fn refused_with(refusal: u64, points: u64) -> Answer
 }
 
 // An answer that is not refused.
-fn answered_with(points: u64, results: Results) -> Answer
+pub fn answered_with(points: u64, results: Results) -> Answer
     ensures { λ r. ⌜ r ≡ answered points results ⌝ }
 {
     Answer {
@@ -100,7 +97,7 @@ fn reach_orbit(orbit: Orbit) -> Reached
 }
 
 // From the eight words: refusal 2, then the orbit.
-fn reach(words: [u64; 8]) -> Reached
+pub fn reach(words: [u64; 8]) -> Reached
     ensures { λ r. ⌜ r ≡ reachedOf words ⌝ }
 {
     match orbits::orbit_of(words) {
@@ -125,40 +122,6 @@ pub fn propagate(words: [u64; 8]) -> Answer
 {
     match reach(words) {
         Reached::End(arc, points) => answer_of(points, ended(arc)),
-        Reached::Refused(refusal, points) => refused_with(refusal, points),
-    }
-}
-
-// The partials of an arc whose results are not refused, to the lent run: all of them, or refusal 8 and none.
-fn with_partials(arc: Arc, points: u64, results: Results, run: &mut [u64]) -> Answer
-    ensures { λ r. ⌜ (r ≡ withPartials arc points results (now (run .entry))) × (now (run .exit) ≡ lentAfter arc (now (run .entry))) ⌝ }
-{
-    let refusal = partials::write_partials(arc, run);
-    if refusal != 0 {
-        return refused_with(refusal, points);
-    }
-    answered_with(points, results)
-}
-
-// An arc's results with its partials: refusals 7 and 8, or both.
-fn end_with_partials(arc: Arc, points: u64, run: &mut [u64]) -> Answer
-    ensures { λ r. ⌜ (r ≡ endedWith arc points (endedOf arc) (now (run .entry))) × (now (run .exit) ≡ lentEnded arc (endedOf arc) (now (run .entry))) ⌝ }
-{
-    match ended(arc) {
-        Ended::Results(results) => with_partials(arc, points, results, run),
-        Ended::Refused(refusal) => refused_with(refusal, points),
-    }
-}
-
-// The same of eight words, with the 36 partials to the lent run: refusal 1, then as without them, and 8 by the partials too.
-pub fn propagate_with_partials(words: [u64; 8], run: &mut [u64]) -> Answer
-    ensures { λ r. ⌜ (r ≡ partialsOf words (now (run .entry))) × (now (run .exit) ≡ lentOf words (now (run .entry))) ⌝ }
-{
-    if run.len() != 36 {
-        return refused_with(1, 0);
-    }
-    match reach(words) {
-        Reached::End(arc, points) => end_with_partials(arc, points, run),
         Reached::Refused(refusal, points) => refused_with(refusal, points),
     }
 }

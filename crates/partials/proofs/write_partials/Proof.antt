@@ -7,10 +7,11 @@ use borrow.Author.Needs.{needs}
 use borrow.Author.Tests.{eq-eqb, ne-eqb}
 use lib.ListN.{length}
 use lib.Ieee.{Float}
+use Rattle.bits.specs.Words.{wordsOf}
 use Rattle.arcs.specs.Finite.{allFinite, anyZero}
 use Rattle.matrix.specs.Matrix.{divisorsOf}
 use Rattle.partials.specs.Entries.{entriesOf}
-use Rattle.partials.specs.Partials.{wordsOf, refusalOf, lentAfter}
+use Rattle.partials.specs.Partials.{refusalOf, lentAfter}
 use Rattle.arcs.specs.declared.figures.Arc.{Arc}
 use Rattle.partials.proofs.write_partials.Statement.{statement}
 use Rattle.partials.proofs.write_partials.Tie as tie

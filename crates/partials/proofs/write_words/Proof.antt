@@ -10,7 +10,7 @@ use lib.Seq.{take-suc, take-suc-set, take-all}
 use lib.Ieee.{Float, nan, binary64, toBits}
 use Rattle.bits.proofs.Doubles.{finite-no-nan}
 use Rattle.arcs.proofs.FiniteLaws.{each-finite}
-use Rattle.partials.specs.Partials.{wordsOf}
+use Rattle.bits.specs.Words.{wordsOf}
 use Rattle.partials.proofs.write_words.Statement.{statement}
 use Rattle.partials.proofs.write_words.Tie as tie
 

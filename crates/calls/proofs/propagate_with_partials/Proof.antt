@@ -7,10 +7,11 @@ use borrow.Author.Tests.{eq-eqb, ne-eqb}
 use borrow.Author.Needs.{needs}
 use lib.ListN.{length}
 use Rattle.bits.specs.Choice.{pick}
 use Rattle.states.specs.declared.figures.Reached.{Reached}
-use Rattle.states.specs.Call.{refused, reachedOf, partialsBy, lentBy, partialsOf, lentOf}
-use Rattle.states.proofs.call.propagate_with_partials.Statement.{statement}
-use Rattle.states.proofs.call.propagate_with_partials.Tie as tie
+use Rattle.states.specs.Call.{refused, reachedOf}
+use Rattle.calls.specs.WithPartials.{partialsBy, lentBy, partialsOf, lentOf}
+use Rattle.calls.proofs.propagate_with_partials.Statement.{statement}
+use Rattle.calls.proofs.propagate_with_partials.Tie as tie
 
 module _ (words run : List ℕ) where
   wrong-length : (length run ≡ 36 → ⊥) → (refused 1 0 ≡ partialsOf words run) × (run ≡ lentOf words run)

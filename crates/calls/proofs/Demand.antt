@@ -9,6 +9,7 @@ use borrow.Author.Tests.{eq-eqb}
 use lib.Dec.{eqb}
 use lib.ListN.{length}
 use Rattle.bits.specs.Choice.{pick}
+use Rattle.bits.specs.Words.{wordsOf}
 use Rattle.search.specs.Search.{searchOf}
 use Rattle.points.specs.Trial.{anomalyAt}
 use Rattle.search.specs.declared.figures.Answer.{Answer as Found}
@@ -21,13 +22,14 @@ use Rattle.arcs.specs.declared.figures.Ended.the-variants as ended
 use Rattle.partials.specs.Entries.{entriesOf}
 use Rattle.arcs.proofs.Laws.{seven-or-eight}
 use Rattle.partials.proofs.Laws.{zero-or-eight}
-use Rattle.partials.specs.Partials.{refusalOf, lentAfter, wordsOf}
+use Rattle.partials.specs.Partials.{refusalOf, lentAfter}
 use Rattle.orbits.specs.Initial.{firstStepOf}
-use Rattle.states.specs.Call.{noResults, refused, answered, reachedBy, reachedFrom, reachedBegun, reachedOrbit, reachedRead, reachedOf, endedAnswer, answerBy, propagateOf, withPartials, endedWith, lentEnded, partialsBy, lentBy, partialsOf, lentOf}
-use Rattle.states.specs.Demand.{ZerosOrAnswer, UnchangedOrAnswer, Searches, FindsAnomaly}
+use Rattle.states.specs.Call.{noResults, refused, answered, reachedBy, reachedFrom, reachedBegun, reachedOrbit, reachedRead, reachedOf, endedAnswer, answerBy, propagateOf}
+use Rattle.calls.specs.WithPartials.{withPartials, endedWith, lentEnded, partialsBy, lentBy, partialsOf, lentOf}
+use Rattle.calls.specs.Demand.{ZerosOrAnswer, UnchangedOrAnswer, Searches, FindsAnomaly}
 use Rattle.states.specs.declared.figures.Reached.{Reached}
 use Rattle.states.specs.declared.figures.Reached.the-variants as reached
 use Rattle.states.specs.declared.figures.Answer.{Answer}
 
 -- ---- Demand 1
 abbrev Clean : Answer → Type 0

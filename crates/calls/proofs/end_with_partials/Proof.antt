@@ -2,9 +2,9 @@
 use mathlib.Core.Path.{sym, _∙_, ap}
 use borrow.Author.Needs.{needs}
 use Rattle.arcs.specs.declared.figures.Ended.{Ended}
-use Rattle.states.specs.Call.{endedWith, lentEnded}
-use Rattle.states.proofs.call.end_with_partials.Statement.{statement}
-use Rattle.states.proofs.call.end_with_partials.Tie as tie
+use Rattle.calls.specs.WithPartials.{endedWith, lentEnded}
+use Rattle.calls.proofs.end_with_partials.Statement.{statement}
+use Rattle.calls.proofs.end_with_partials.Tie as tie
 
 ended-requires : tie.Need-ended-requires
 ended-requires c κs = search needs

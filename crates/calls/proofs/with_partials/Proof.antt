@@ -10,10 +10,11 @@ use Rattle.bits.specs.Choice.{pick}
 use Rattle.arcs.specs.declared.figures.Arc.{Arc}
 use Rattle.arcs.specs.declared.figures.Results.{Results}
 use Rattle.partials.specs.Partials.{refusalOf}
 use Rattle.states.specs.declared.figures.Answer.{Answer}
-use Rattle.states.specs.Call.{refused, answered, withPartials}
-use Rattle.states.proofs.call.with_partials.Statement.{statement}
-use Rattle.states.proofs.call.with_partials.Tie as tie
+use Rattle.states.specs.Call.{refused, answered}
+use Rattle.calls.specs.WithPartials.{withPartials}
+use Rattle.calls.proofs.with_partials.Statement.{statement}
+use Rattle.calls.proofs.with_partials.Tie as tie
 
 module _ (arc : Arc) (n : ℕ) (r : Results) (run : List ℕ) where
   by : ℕ → Answer

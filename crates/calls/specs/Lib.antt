@@ -1,0 +1,3 @@
+-- Layer 4: the call with partials; then what both calls promise.
+pub mod WithPartials
+pub mod Demand
