@@ -14,7 +14,8 @@ use Rattle.reader.specs.Reader.{sectionsOf}
 use Rattle.reader.specs.declared.Places.{Places}
 use Rattle.reader.proofs.Accepted.{counts-within}
 use Rattle.files.proofs.Laws.{accepted-sound}
-use Rattle.results.specs.Results.{Accepted, requestWords, rowOf, rowsOf, rowPlace, sectionsWords, fits}
+use Rattle.requests.specs.Requests.{requestWords}
+use Rattle.results.specs.Results.{Accepted, rowOf, rowsOf, rowPlace, sectionsWords, fits}
 
 -- ---- Places and counts.
 abbrev pub Small : Places → Type 0

@@ -18,7 +18,8 @@ use Rattle.orbits.specs.Initial.{dot, begunOf, firstStepOf}
 use Rattle.states.specs.Call.{refused, answered, reachedBy, reachedFrom, reachedOrbit, reachedOf, endedAnswer, propagateOf, answerWords}
 use Rattle.runs.specs.Words.{written}
 use Rattle.reader.specs.Reader.{readingOf}
-use Rattle.results.specs.Results.{tauSince, tauWord, eightWords, requestWords, rowOf, rowsOf, resultFile}
+use Rattle.requests.specs.Requests.{tauSince, tauWord, eightWords, requestWords}
+use Rattle.results.specs.Results.{rowOf, rowsOf, resultFile}
 
 -- What a case asks for: the root of a word; the coefficients at L = +0, by α and ψ; a call of eight words; the result file of an element file. All are words.
 pub data Asked : Type 0 where

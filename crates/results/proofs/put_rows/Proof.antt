@@ -7,8 +7,9 @@ use lib.ListN.{length}
 use Rattle.runs.specs.Words.{written, put}
 use Rattle.reader.specs.declared.Places.{Places}
 use Rattle.runs.proofs.PutLaws.{put-nothing}
+use Rattle.requests.specs.Requests.{requestWords}
 use Rattle.results.proofs.Rows.{row-after, room-length}
-use Rattle.results.specs.Results.{requestWords, rowOf, rowsOf, rowPlace}
+use Rattle.results.specs.Results.{rowOf, rowsOf, rowPlace}
 use Rattle.results.proofs.put_rows.Statement.{statement}
 use Rattle.results.proofs.put_rows.Tie as tie
 

@@ -2,9 +2,9 @@
 use mathlib.Core.Path.{sym, _∙_, ap}
 use borrow.Author.Needs.{needs}
 use Rattle.bits.specs.declared.words.Figure.{Figure}
-use Rattle.results.specs.Results.{tauWord, tauFrom}
-use Rattle.results.proofs.tau_word.Statement.{statement}
-use Rattle.results.proofs.tau_word.Tie as tie
+use Rattle.requests.specs.Requests.{tauWord, tauFrom}
+use Rattle.requests.proofs.tau_word.Statement.{statement}
+use Rattle.requests.proofs.tau_word.Tie as tie
 
 figure-of-requires : tie.Need-figure-of-requires
 figure-of-requires c κs = search needs

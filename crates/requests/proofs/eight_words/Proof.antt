@@ -2,9 +2,9 @@
 use mathlib.Core.Path.{_∙_, ap₂}
 use mathlib.Core.List.{[], _∷_}
 use borrow.Author.Needs.{needs}
-use Rattle.results.specs.Results.{tauWord, eightWords}
-use Rattle.results.proofs.eight_words.Statement.{statement}
-use Rattle.results.proofs.eight_words.Tie as tie
+use Rattle.requests.specs.Requests.{tauWord, eightWords}
+use Rattle.requests.proofs.eight_words.Statement.{statement}
+use Rattle.requests.proofs.eight_words.Tie as tie
 
 word-at-requires : tie.Need-word-at-requires
 word-at-requires c κs = search needs

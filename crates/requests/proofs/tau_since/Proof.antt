@@ -1,9 +1,9 @@
 -- Each arm is the definition at what the epoch is.
 use mathlib.Core.Path.{sym, _∙_, ap}
 use borrow.Author.Needs.{needs}
-use Rattle.results.specs.Results.{tauSince, tauBetween}
-use Rattle.results.proofs.tau_since.Statement.{statement}
-use Rattle.results.proofs.tau_since.Tie as tie
+use Rattle.requests.specs.Requests.{tauSince, tauBetween}
+use Rattle.requests.proofs.tau_since.Statement.{statement}
+use Rattle.requests.proofs.tau_since.Tie as tie
 
 figure-of-requires : tie.Need-figure-of-requires
 figure-of-requires c κs = search needs

@@ -1,0 +1,2 @@
+-- Layer 5: the words of a request.
+pub mod Requests
