@@ -32,6 +32,9 @@ INPUT =
 BENCH = root propagate partials results
 BESIDE = bench/plain.c bench/plain_root.c bench/plain_search.c bench/plain_results.c bench/newton.c bench/orbits.c bench/empty.c bench/row.c
 
+# rt proves so many crates, or tries so many wrong programs, at a time; with fewer processors than that, none waits for the longest of a pair.
+export RT_JOBS = 4
+
 # One step at a time, in the order written: what is cheap to find wrong comes before what takes minutes.
 .NOTPARALLEL:
 .PHONY: run state check test wrong fuzz bench program lib install install-files clean
