@@ -38,7 +38,7 @@ export RT_JOBS = 4
 # One step at a time, in the order written: what is cheap to find wrong comes before what takes minutes.
 .NOTPARALLEL:
 .PHONY: run state check test wrong fuzz bench program lib install install-files clean
-.PHONY: kit layout map machine header edition readme selfcheck installed tried
+.PHONY: kit layout map proved machine header edition readme selfcheck installed tried
 
 # What make run shows.
 ELEMENTS = examples/orbits.elements
@@ -53,8 +53,7 @@ state: build/host/propagate
 check: layout map test
 	@rt ci
 
-# The program before the library, since rt then proves side by side what both rest on.
-test: machine header program edition readme selfcheck installed build/host/propagate tried $(TESTS)
+test: machine header proved program edition readme selfcheck installed build/host/propagate tried $(TESTS)
 	@sh tests/run.sh $(TESTS)
 
 wrong: kit
@@ -67,6 +66,12 @@ fuzz: machine $(FUZZ)
 
 bench: machine $(BENCH:%=build/bench/%)
 	@sh bench/run.sh $(BENCH)
+
+# What the library and the program rest on, at once: rt then proves side by side what does not depend on one another.
+proved: kit
+	@mkdir -p build
+	@echo 'proved: rt proves what the library and the program rest on, and the program'
+	@rt check calls propagate >build/proved.log 2>&1 || { cut -c 1-1500 build/proved.log; exit 1; }
 
 # Always asked of rt, which alone knows by content what target/ has proved already. rt ci removes
 # target/ and proves all anew, so a copy stays in build/ for the hosts.
