@@ -1,7 +1,7 @@
--- The places of an accepted file are small; a result file is its rows, one after another.
+-- The counts of an accepted file are small; a result file is its rows, one after another.
 use mathlib.Core.Path.{_≡_, refl, sym, ap, _∙_, subst}
 use mathlib.Core.List.{List, [], _∷_}
-use Prim.Native.Nat.{ℕ, zero, suc, _*_, _^_, _<_, _≤_}
+use Prim.Native.Nat.{ℕ, zero, suc, _*_, _<_, _≤_}
 use native.Mathlib.Omega.{arith}
 use borrow.Author.Tests.{le-leb, lt-leb}
 use lib.ListN.{length, length-append}
@@ -17,18 +17,15 @@ use Rattle.files.proofs.Laws.{accepted-sound}
 use Rattle.requests.specs.Requests.{requestWords}
 use Rattle.results.specs.Results.{Accepted, rowOf, rowsOf, rowPlace, sectionsWords, fits}
 
--- ---- Places and counts.
+-- ---- Counts.
 abbrev pub Small : Places → Type 0
-Small p =
-    ((p .centres .place < 2 ^ 32) × (p .states .place < 2 ^ 32) × (p .requests .place < 2 ^ 32))
-    × ((p .centres .count ≤ 16) × (p .states .count ≤ 500) × (p .requests .count ≤ 1500))
+Small p = (p .centres .count ≤ 16) × (p .states .count ≤ 500) × (p .requests .count ≤ 1500)
 
 pub small : (file : List ℕ) (places : Places) → Accepted file places → Small places
 unfolding sectionsOf
 small file places e =
     let a = accepted-sound file places e in
-    let w = counts-within file (a .0) in
-    subst Small (a .1) ((omega arith, omega (arith, w), omega (arith, w)), w)
+    subst Small (a .1) (counts-within file (a .0))
 
 -- ---- Rows.
 pub row-length : (words : List ℕ) → length (rowOf words) ≡ 11
