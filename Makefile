@@ -71,7 +71,7 @@ bench: machine $(BENCH:%=build/bench/%)
 proved: kit
 	@mkdir -p build
 	@echo 'proved: rt proves what the library and the program rest on, and the program'
-	@rt check calls propagate >build/proved.log 2>&1 || { cut -c 1-1500 build/proved.log; exit 1; }
+	@rt check states propagate >build/proved.log 2>&1 || { cut -c 1-1500 build/proved.log; exit 1; }
 
 # Always asked of rt, which alone knows by content what target/ has proved already. rt ci removes
 # target/ and proves all anew, so a copy stays in build/ for the hosts.

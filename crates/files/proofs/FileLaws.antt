@@ -5,19 +5,19 @@ use mathlib.Core.Path.{_≡_, ap, ap₂, sym, _∙_}
 use mathlib.Core.List.{List, [], _∷_, _++_, append-assoc, append-nil}
 use borrow.Author.Tests.{le-leb, eq-eqb}
 use lib.ListN.{length, length-append}
-use Rattle.runs.specs.Words.{wordAt, wordsFrom, written, Below}
-use Rattle.runs.proofs.WordLaws.{next-word, no-word, whole-file, words-after, length-written, below-append}
-use Rattle.sections.specs.declared.Section.{Section}
-use Rattle.sections.specs.declared.Section.the-variants.{Centres, States, Requests}
-use Rattle.sections.specs.declared.Check.{Check}
-use Rattle.sections.specs.declared.Check.the-variants.{Sound}
-use Rattle.sections.specs.Sections.{widthOf, statesPlace, requestsPlace, endPlace}
-use Rattle.sections.proofs.CheckLaws.{both, sound-both, sound-need}
-use Rattle.sections.proofs.RecordLaws.{limit-bound}
-use Rattle.reader.specs.Reader.{editionCheck, requestsCheck, statesCheck, centresCheck, fileCheck, sectionCheck}
-use Rattle.reader.proofs.Accepted.{edition-sound, centres-sound, states-sound, requests-sound, nothing-left}
-use Rattle.writer.specs.Writer.{recordsIn, wholeCheck, wholeChecks, limitChecks, numberCheck, numberChecks, lengthOf, refusalOf, sectionWords, fileWords, fileOf}
-use Rattle.writer.proofs.WriteLaws.{fits, numbers-sound}
+use Rattle.files_words.specs.Words.{wordAt, wordsFrom, written, Below}
+use Rattle.files_words.proofs.WordLaws.{next-word, no-word, whole-file, words-after, length-written, below-append}
+use Rattle.files_sections.specs.declared.Section.{Section}
+use Rattle.files_sections.specs.declared.Section.the-variants.{Centres, States, Requests}
+use Rattle.files_sections.specs.declared.Check.{Check}
+use Rattle.files_sections.specs.declared.Check.the-variants.{Sound}
+use Rattle.files_sections.specs.Sections.{widthOf, statesPlace, requestsPlace, endPlace}
+use Rattle.files_sections.proofs.CheckLaws.{both, sound-both, sound-need}
+use Rattle.files_sections.proofs.RecordLaws.{limit-bound}
+use Rattle.files_reader.specs.Reader.{editionCheck, requestsCheck, statesCheck, centresCheck, fileCheck, sectionCheck}
+use Rattle.files_reader.proofs.Accepted.{edition-sound, centres-sound, states-sound, requests-sound, nothing-left}
+use Rattle.files.specs.Writer.{recordsIn, wholeCheck, wholeChecks, limitChecks, numberCheck, numberChecks, lengthOf, refusalOf, sectionWords, fileWords, fileOf}
+use Rattle.files.proofs.WriteLaws.{fits, numbers-sound}
 use Rattle.files.proofs.SectionLaws.{Proper, records-of, no-rest, of-records, runAt, read-proper, read-words, read-end, found-count, found-sound, found-run}
 
 -- Runs that are sound sections of these counts, each where it would stand.

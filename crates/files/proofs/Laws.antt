@@ -9,23 +9,23 @@ use lib.Dec.{ltb}
 use lib.ListN.{length, getD, take, drop}
 use lib.Seq.{getD-take, take-at}
 use Rattle.bits.specs.Choice.{pick}
-use Rattle.runs.specs.Words.{wordAt, put, wordsFrom, Below}
-use Rattle.runs.proofs.WordLaws.{word-of-words, words-below, below-take, below-drop}
-use Rattle.runs.proofs.PutLaws.{put-fits}
-use Rattle.sections.specs.declared.Section.{Section}
-use Rattle.sections.specs.declared.Section.the-variants.{Centres, States, Requests}
-use Rattle.sections.specs.declared.Check.{Check}
-use Rattle.sections.specs.declared.Check.the-variants.{Sound, Fault}
-use Rattle.sections.specs.Sections.{widthOf, numberFault, statesPlace, requestsPlace, endPlace}
-use Rattle.reader.specs.declared.Located.{Located}
-use Rattle.reader.specs.declared.Places.{Places}
-use Rattle.reader.specs.declared.Reading.{Reading}
-use Rattle.reader.specs.declared.Reading.the-variants.{Sections, Refused}
-use Rattle.reader.specs.Reader.{fileCheck, placesOf, sectionsOf, readingBy, readingOf}
-use Rattle.reader.proofs.Accepted.{counts-within, states-sound, requests-sound}
-use Rattle.writer.specs.declared.Writing.the-variants.{Length}
-use Rattle.writer.specs.Writer.{recordsIn, lengthOf, refusalOf, fileOf, writingBy, roomBy, writingOf, roomOf}
-use Rattle.writer.proofs.WriteLaws.{fits}
+use Rattle.files_words.specs.Words.{wordAt, put, wordsFrom, Below}
+use Rattle.files_words.proofs.WordLaws.{word-of-words, words-below, below-take, below-drop}
+use Rattle.files_words.proofs.PutLaws.{put-fits}
+use Rattle.files_sections.specs.declared.Section.{Section}
+use Rattle.files_sections.specs.declared.Section.the-variants.{Centres, States, Requests}
+use Rattle.files_sections.specs.declared.Check.{Check}
+use Rattle.files_sections.specs.declared.Check.the-variants.{Sound, Fault}
+use Rattle.files_sections.specs.Sections.{widthOf, numberFault, statesPlace, requestsPlace, endPlace}
+use Rattle.files_reader.specs.declared.Located.{Located}
+use Rattle.files_reader.specs.declared.Places.{Places}
+use Rattle.files_reader.specs.declared.Reading.{Reading}
+use Rattle.files_reader.specs.declared.Reading.the-variants.{Sections, Refused}
+use Rattle.files_reader.specs.Reader.{fileCheck, placesOf, sectionsOf, readingBy, readingOf}
+use Rattle.files_reader.proofs.Accepted.{counts-within, states-sound, requests-sound}
+use Rattle.files.specs.declared.Writing.the-variants.{Length}
+use Rattle.files.specs.Writer.{recordsIn, lengthOf, refusalOf, fileOf, writingBy, roomBy, writingOf, roomOf}
+use Rattle.files.proofs.WriteLaws.{fits}
 use Rattle.files.specs.Held.{held, ReadsAs, WrittenAs, Writable}
 use Rattle.files.proofs.SectionLaws.{runAt, read-each}
 use Rattle.files.proofs.FileLaws.{ProperFile, accepted-proper, proper-accepted, proper-length, read-file-proper, read-length, read-bytes, file-length, file-sound, centres-count, states-count, requests-count, centres-held, states-held, requests-held}

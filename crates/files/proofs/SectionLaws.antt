@@ -7,17 +7,17 @@ use mathlib.Core.List.{List, [], _∷_, _++_}
 use borrow.Author.Tests.{le-leb}
 use lib.ListN.{length, getD, take, drop, take-append-drop}
 use lib.Seq.{length-take-le, take-at}
-use Rattle.runs.specs.Words.{wordAt, wordsFrom}
-use Rattle.runs.proofs.WordLaws.{next-word, word-of-words, words-later, length-words-from}
-use Rattle.sections.specs.declared.Section.{Section}
-use Rattle.sections.specs.declared.Section.the-variants.{Centres, States, Requests}
-use Rattle.sections.specs.declared.Check.{Check}
-use Rattle.sections.specs.declared.Check.the-variants.{Sound}
-use Rattle.sections.specs.Sections.{widthOf, limitOf, after, ruleOf, told, _⟫_, walk}
-use Rattle.sections.proofs.CheckLaws.{both, untold, fault-is-not-sound, sound-both, sound-need}
-use Rattle.reader.specs.Reader.{countCheck, sectionCheck}
-use Rattle.reader.proofs.Accepted.{count-whole, count-within, words-sound}
-use Rattle.writer.specs.Writer.{recordsIn, numberCheck, sectionWords}
+use Rattle.files_words.specs.Words.{wordAt, wordsFrom}
+use Rattle.files_words.proofs.WordLaws.{next-word, word-of-words, words-later, length-words-from}
+use Rattle.files_sections.specs.declared.Section.{Section}
+use Rattle.files_sections.specs.declared.Section.the-variants.{Centres, States, Requests}
+use Rattle.files_sections.specs.declared.Check.{Check}
+use Rattle.files_sections.specs.declared.Check.the-variants.{Sound}
+use Rattle.files_sections.specs.Sections.{widthOf, limitOf, after, ruleOf, told, _⟫_, walk}
+use Rattle.files_sections.proofs.CheckLaws.{both, untold, fault-is-not-sound, sound-both, sound-need}
+use Rattle.files_reader.specs.Reader.{countCheck, sectionCheck}
+use Rattle.files_reader.proofs.Accepted.{count-whole, count-within, words-sound}
+use Rattle.files.specs.Writer.{recordsIn, numberCheck, sectionWords}
 
 -- ---- The walk looks at no more words than it needs, and a sound one had them all.
 

@@ -3,13 +3,13 @@ use Prim.Native.Nat.{ℕ}
 use mathlib.Core.Path.{_≡_, refl}
 use mathlib.Core.List.{List, [], _∷_, _++_}
 use lib.ListN.{replicate}
-use Rattle.runs.specs.Words.{written}
-use Rattle.reader.specs.declared.Reading.{Reading}
-use Rattle.reader.specs.declared.Reading.the-variants as reading
-use Rattle.reader.specs.Reader.{placesOf, readingOf}
-use Rattle.writer.specs.declared.Writing.{Writing}
-use Rattle.writer.specs.declared.Writing.the-variants as writing
-use Rattle.writer.specs.Writer.{writingOf, roomOf}
+use Rattle.files_words.specs.Words.{written}
+use Rattle.files_reader.specs.declared.Reading.{Reading}
+use Rattle.files_reader.specs.declared.Reading.the-variants as reading
+use Rattle.files_reader.specs.Reader.{placesOf, readingOf}
+use Rattle.files.specs.declared.Writing.{Writing}
+use Rattle.files.specs.declared.Writing.the-variants as writing
+use Rattle.files.specs.Writer.{writingOf, roomOf}
 
 -- ---- The reader, of the file of these words.
 abbrev pub Reads : List ℕ → Reading → Type 0

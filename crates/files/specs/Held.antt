@@ -3,16 +3,16 @@ use Prim.Native.Nat.{ℕ, _+_, _*_, _^_}
 use mathlib.Core.Path.{_≡_}
 use mathlib.Core.List.{List, _++_}
 use lib.ListN.{length, take, drop}
-use Rattle.runs.specs.Words.{wordsFrom, Below}
-use Rattle.sections.specs.declared.Section.{Section}
-use Rattle.sections.specs.declared.Section.the-variants.{Centres, States, Requests}
-use Rattle.sections.specs.Sections.{widthOf}
-use Rattle.reader.specs.declared.Located.{Located}
-use Rattle.reader.specs.declared.Places.{Places}
-use Rattle.reader.specs.declared.Reading.the-variants.{Sections}
-use Rattle.reader.specs.Reader.{readingOf}
-use Rattle.writer.specs.declared.Writing.the-variants.{Length}
-use Rattle.writer.specs.Writer.{writingOf, roomOf}
+use Rattle.files_words.specs.Words.{wordsFrom, Below}
+use Rattle.files_sections.specs.declared.Section.{Section}
+use Rattle.files_sections.specs.declared.Section.the-variants.{Centres, States, Requests}
+use Rattle.files_sections.specs.Sections.{widthOf}
+use Rattle.files_reader.specs.declared.Located.{Located}
+use Rattle.files_reader.specs.declared.Places.{Places}
+use Rattle.files_reader.specs.declared.Reading.the-variants.{Sections}
+use Rattle.files_reader.specs.Reader.{readingOf}
+use Rattle.files.specs.declared.Writing.the-variants.{Length}
+use Rattle.files.specs.Writer.{writingOf, roomOf}
 
 -- The words of a section's records in a file: those after its count word, as many as the count says.
 abbrev pub held : List ℕ → Section → Located → List ℕ

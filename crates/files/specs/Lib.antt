@@ -1,3 +1,4 @@
--- Layer 5: the element file, read and written. Read the files in this order.
+-- Layer 5: the element file, written, and what ties reading and writing. Read the files in this order.
+pub mod Writer
 pub mod Held
 pub mod Cases

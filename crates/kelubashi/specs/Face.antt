@@ -5,11 +5,11 @@ use Prim.Native.Nat.{ℕ}
 use lib.Dec.{eqb}
 use lib.ListN.{length, getD}
 use Rattle.bits.specs.Choice.{pick}
-use Rattle.reader.specs.declared.Reading.{Reading}
-use Rattle.reader.specs.declared.Reading.the-variants as reading
-use Rattle.writer.specs.declared.Writing.{Writing}
-use Rattle.writer.specs.declared.Writing.the-variants as writing
-use Rattle.results.specs.declared.Outcome.{Outcome}
+use Rattle.files_reader.specs.declared.Reading.{Reading}
+use Rattle.files_reader.specs.declared.Reading.the-variants as reading
+use Rattle.files.specs.declared.Writing.{Writing}
+use Rattle.files.specs.declared.Writing.the-variants as writing
+use Rattle.files_results.specs.declared.Outcome.{Outcome}
 
 -- What is returned, for an answer of n words and a run as it was handed in.
 abbrev pub returned : ℕ → List ℕ → ℕ → ℕ

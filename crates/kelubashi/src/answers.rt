@@ -2,8 +2,8 @@
 ghost use mathlib.Core.Path.{_≡_};
 ghost use lib.ListN.{length};
 ghost use Rattle.kelubashi.specs.Face.{readingWords, writingWords};
-use reader::Reading;
-use writer::Writing;
+use files::Writing;
+use files_reader::Reading;
 
 // Writes an answer's words to a run of their length.
 pub fn put(words: &[u64], run: &mut [u64])

@@ -4,11 +4,11 @@ ghost use mathlib.Core.Path.{_≡_};
 ghost use mathlib.Core.List.{[], _∷_};
 ghost use Rattle.bits.specs.Root.{rootRefusalOf, rootWordOf};
 ghost use Rattle.states.specs.Call.{answerWords, propagateOf};
-ghost use Rattle.calls.specs.WithPartials.{partialsOf, lentOf};
-ghost use Rattle.runs.specs.Words.{put};
-ghost use Rattle.reader.specs.Reader.{readingOf};
-ghost use Rattle.writer.specs.Writer.{writingOf, roomOf};
-ghost use Rattle.results.specs.Results.{outcomeOf, resultFile};
+ghost use Rattle.states.specs.WithPartials.{partialsOf, lentOf};
+ghost use Rattle.files_words.specs.Words.{put};
+ghost use Rattle.files_reader.specs.Reader.{readingOf};
+ghost use Rattle.files.specs.Writer.{writingOf, roomOf};
+ghost use Rattle.files_results.specs.Results.{outcomeOf, resultFile};
 ghost use Rattle.kelubashi.specs.Face.{returned, written, orbitWords, lentBehind, readingWords, writingWords, outcomeWords, firstOf};
 
 mod answers;
@@ -69,7 +69,7 @@ pub extern "C" fn kelubashi1_partials(
     if answer.len() != 15 {
         return 60;
     }
-    let a = calls::propagate_with_partials([mu, x, y, z, vx, vy, vz, tau], run);
+    let a = states::partials::propagate_with_partials([mu, x, y, z, vx, vy, vz, tau], run);
     let words = states::answer::words_of(a);
     answers::put(&words, answer);
     a.refusal
@@ -83,7 +83,7 @@ pub extern "C" fn kelubashi1_read(file: &[u8], answer: &mut [u64]) -> u64
     if answer.len() != 8 {
         return 60;
     }
-    let words = answers::reading_words(reader::read_file(file));
+    let words = answers::reading_words(files_reader::read_file(file));
     answers::put(&words, answer);
     words[0]
 }
@@ -102,7 +102,7 @@ pub extern "C" fn kelubashi1_write(
     if answer.len() != 2 {
         return 60;
     }
-    let words = answers::writing_words(writer::write_file(centres, states, requests, room));
+    let words = answers::writing_words(files::write_file(centres, states, requests, room));
     answers::put(&words, answer);
     words[0]
 }
@@ -115,7 +115,7 @@ pub extern "C" fn kelubashi1_results(file: &[u8], room: &mut [u8], answer: &mut 
     if answer.len() != 2 {
         return 60;
     }
-    let outcome = results::write_results(file, room);
+    let outcome = files_results::write_results(file, room);
     answers::put(&[outcome.number, outcome.length as u64], answer);
     outcome.number
 }

@@ -9,16 +9,16 @@ use borrow.Author.Tests.{leb-true, le-leb, lt-leb}
 use lib.Dec.{leb, eqb}
 use lib.ListN.{length, take, drop, length-append, length-drop}
 use lib.Seq.{take-append-le, drop-append-le}
-use Rattle.runs.specs.Words.{number, wordAt, wordsFrom, written}
-use Rattle.runs.proofs.WordLaws.{word-whole, next-word}
-use Rattle.sections.specs.declared.Section.{Section}
-use Rattle.sections.specs.declared.Section.the-variants.{Centres, States, Requests}
-use Rattle.sections.specs.declared.Check.{Check}
-use Rattle.sections.specs.declared.Check.the-variants.{Sound, Fault}
-use Rattle.sections.specs.Sections.{widthOf, limitOf, statesPlace, requestsPlace, endPlace, ruleOf, need, told, _⟫_, walk}
-use Rattle.reader.specs.Reader.{editionCheck, countCheck, sectionCheck, endCheck, requestsCheck, statesCheck, centresCheck, fileCheck, sectionsOf, readingBy, readingOf}
+use Rattle.files_words.specs.Words.{number, wordAt, wordsFrom, written}
+use Rattle.files_words.proofs.WordLaws.{word-whole, next-word}
+use Rattle.files_sections.specs.declared.Section.{Section}
+use Rattle.files_sections.specs.declared.Section.the-variants.{Centres, States, Requests}
+use Rattle.files_sections.specs.declared.Check.{Check}
+use Rattle.files_sections.specs.declared.Check.the-variants.{Sound, Fault}
+use Rattle.files_sections.specs.Sections.{widthOf, limitOf, statesPlace, requestsPlace, endPlace, ruleOf, need, told, _⟫_, walk}
+use Rattle.files_reader.specs.Reader.{editionCheck, countCheck, sectionCheck, endCheck, requestsCheck, statesCheck, centresCheck, fileCheck, sectionsOf, readingBy, readingOf}
 use Rattle.files.proofs.Laws.{accepted-length}
-use Rattle.results.specs.Results.{resultBy, resultFile}
+use Rattle.files_results.specs.Results.{resultBy, resultFile}
 
 module _ (start rest : List ℕ) where
   abbrev whole : List ℕ

@@ -7,14 +7,14 @@ use lib.ListN.{length, take, drop}
 use lib.Seq.{take-append-seam}
 use Rattle.io.specs.Counts.{Counts}
 use Rattle.io.proofs.Counting.{counts}
-use Rattle.runs.specs.Words.{written, put}
-use Rattle.runs.proofs.WordLaws.{length-written}
-use Rattle.runs.proofs.PutLaws.{put-fits, length-put}
-use Rattle.reader.specs.Reader.{readingOf}
-use Rattle.reader.specs.declared.Reading.{Reading}
-use Rattle.reader.specs.declared.Reading.the-variants.{Sections, Refused}
-use Rattle.results.specs.Results.{resultBy, resultFile}
-use Rattle.results.proofs.Rows.{small, result-length}
+use Rattle.files_words.specs.Words.{written, put}
+use Rattle.files_words.proofs.WordLaws.{length-written}
+use Rattle.files_words.proofs.PutLaws.{put-fits, length-put}
+use Rattle.files_reader.specs.Reader.{readingOf}
+use Rattle.files_reader.specs.declared.Reading.{Reading}
+use Rattle.files_reader.specs.declared.Reading.the-variants.{Sections, Refused}
+use Rattle.files_results.specs.Results.{resultBy, resultFile}
+use Rattle.files_results.proofs.Rows.{small, result-length}
 
 longest-by : (file : List ℕ) (reading : Reading) → readingOf file ≡ reading → length (written (resultBy file reading)) ≤ 132016
 longest-by file (Sections places) e = omega (arith, result-length file places, small file places e)

@@ -9,7 +9,7 @@
 ghost use mathlib.Core.Path.{_≡_};
 ghost use lib.ListN.{take};
 ghost use Rattle.io.specs.Counts.{Counts};
-ghost use Rattle.results.specs.Results.{resultFile};
+ghost use Rattle.files_results.specs.Results.{resultFile};
 use libc::STDERR_FILENO;
 use libc::STDIN_FILENO;
 use libc::STDOUT_FILENO;
@@ -77,6 +77,6 @@ fn results_of(file: &[u8], room: &mut [u8; 132016]) -> usize
     ensures { λ r. ⌜ Counts r (now (room .exit)) ⌝ }
     ensures { λ r. ⌜ take r (now (room .exit)) ≡ resultFile (now (file .entry)) ⌝ }
 {
-    let outcome = results::write_results(file, room);
+    let outcome = files_results::write_results(file, room);
     outcome.length
 }

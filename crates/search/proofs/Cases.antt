@@ -7,16 +7,16 @@ use lib.Ieee.{Float, binary64, ofBits, toBits, neg, add, sub, mul, div, lt, eq, 
 use Rattle.series.specs.Series.{beyondOne, reducedFrom, nested, c4Of, c5Of, atReduced, doublings, quotientsOf, coefficientsOf, sumsOf}
 use Rattle.series.specs.declared.figures.Anomaly.{Anomaly}
 use Rattle.series.specs.declared.figures.Seconds.{Seconds}
-use Rattle.points.specs.declared.figures.Initial.{Initial}
+use Rattle.search_points.specs.declared.figures.Initial.{Initial}
 use Rattle.search.specs.declared.figures.Answer.{Answer}
 use Rattle.search.specs.declared.figures.Answer.the-variants as answer
-use Rattle.points.specs.declared.figures.Sort.{Sort}
-use Rattle.points.specs.declared.figures.Sort.the-variants.{Short, Past, Exact}
-use Rattle.points.specs.Residual.{timeErrorOf, radiusOf}
-use Rattle.points.specs.Trial.{placeOf, anomalyAt, sortOf, unevaluated, evaluatedAt, trialAt}
-use Rattle.history.specs.History.{between, exact, unreadable, allShort, History, tries, ends, onward, outward, halving, inward, history}
-use Rattle.history.specs.History as rule
-use Rattle.proposals.specs.Proposals.{offeredAt, byRadius, byInterval, byEnds, proposed}
+use Rattle.search_points.specs.declared.figures.Sort.{Sort}
+use Rattle.search_points.specs.declared.figures.Sort.the-variants.{Short, Past, Exact}
+use Rattle.search_points.specs.Residual.{timeErrorOf, radiusOf}
+use Rattle.search_points.specs.Trial.{placeOf, anomalyAt, sortOf, unevaluated, evaluatedAt, trialAt}
+use Rattle.search_rule.specs.History.{between, exact, unreadable, allShort, History, tries, ends, onward, outward, halving, inward, history}
+use Rattle.search_rule.specs.History as rule
+use Rattle.search_proposals.specs.Proposals.{offeredAt, byRadius, byInterval, byEnds, proposed}
 use Rattle.search.specs.Search.{historyAt, searchOf}
 
 -- Figures by their words.

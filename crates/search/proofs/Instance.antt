@@ -11,19 +11,19 @@ use Rattle.bits.specs.Arithmetic.{n0}
 use Rattle.bits.specs.Words.{infinity}
 use Rattle.series.specs.declared.figures.Anomaly.{Anomaly}
 use Rattle.series.specs.declared.figures.Seconds.{Seconds}
-use Rattle.points.specs.declared.figures.Initial.{Initial}
+use Rattle.search_points.specs.declared.figures.Initial.{Initial}
 use Rattle.search.specs.declared.figures.Answer.{Answer}
 use Rattle.search.specs.declared.figures.Answer.the-variants as answer
-use Rattle.points.specs.Trial.{placeOf, anomalyAt, unevaluated, trialAt}
-use Rattle.history.specs.History.{Trials, Proposal, End, between, exact, unreadable, allShort, endOf, ended, counted}
-use Rattle.proposals.specs.Proposals.{threeProposals}
+use Rattle.search_points.specs.Trial.{placeOf, anomalyAt, unevaluated, trialAt}
+use Rattle.search_rule.specs.History.{Trials, Proposal, End, between, exact, unreadable, allShort, endOf, ended, counted}
+use Rattle.search_proposals.specs.Proposals.{threeProposals}
 use Rattle.search.specs.Search.{historyAt, answerOf, searchOf}
-use Rattle.history.specs.Demand.{Sorts, IsFound, historyIn, Findable, AllOutwardShort, TriedBy, SomeUnreadable, LastUnreadable}
+use Rattle.search_rule.specs.Demand.{Sorts, IsFound, historyIn, Findable, AllOutwardShort, TriedBy, SomeUnreadable, LastUnreadable}
 use Rattle.search.specs.Demand.{IsAnomaly, usedIn, triedAt, Says, Searched, Promise}
-use Rattle.history.proofs.Counts.{counted-is}
-use Rattle.history.proofs.Rounds.{rounds-63, points-sharp}
-use Rattle.history.proofs.Reach.{finds}
-use Rattle.history.proofs.Refusals.{all-short, all-short-points, some-unreadable, last-some, unreadable-last, history-tried, ends-so}
+use Rattle.search_rule.proofs.Counts.{counted-is}
+use Rattle.search_rule.proofs.Rounds.{rounds-63, points-sharp}
+use Rattle.search_rule.proofs.Reach.{finds}
+use Rattle.search_rule.proofs.Refusals.{all-short, all-short-points, some-unreadable, last-some, unreadable-last, history-tried, ends-so}
 
 -- "Place 0 has R = −τ here"; "A place at or above 2047·2^52 is unreadable."
 pub sorts-at : (i : Initial) (tau : Seconds) → Sorts (trialAt i tau) (neg (tau .0))

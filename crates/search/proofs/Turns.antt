@@ -5,14 +5,14 @@ use mathlib.Core.Bool.{Bool, true}
 use lib.Dec.{eqb}
 use Rattle.bits.specs.Choice.{pick}
 use Rattle.series.specs.declared.figures.Seconds.{Seconds}
-use Rattle.points.specs.declared.figures.Initial.{Initial}
-use Rattle.history.specs.declared.pair.Pair.{Pair}
-use Rattle.history.specs.declared.pair.Next.{Next}
-use Rattle.history.specs.History.{attempt, isWide, halfway, counted}
-use Rattle.history.proofs.Turns.{Fits, after, stage, turn}
-use Rattle.points.specs.Trial.{trialAt}
-use Rattle.proposals.specs.Proposals.{proposed}
-use Rattle.proposals.proofs.Fits.{offer-fits}
+use Rattle.search_points.specs.declared.figures.Initial.{Initial}
+use Rattle.search_rule.specs.declared.pair.Pair.{Pair}
+use Rattle.search_rule.specs.declared.pair.Next.{Next}
+use Rattle.search_rule.specs.History.{attempt, isWide, halfway, counted}
+use Rattle.search_rule.proofs.Turns.{Fits, after, stage, turn}
+use Rattle.search_points.specs.Trial.{trialAt}
+use Rattle.search_proposals.specs.Proposals.{proposed}
+use Rattle.search_proposals.proofs.Fits.{offer-fits}
 
 -- A turn of the search as the code takes it: what is left after it is what was left before it.
 pub search-turn : (i : Initial) (tau : Seconds) (left n : ℕ) (s : Pair) → 0 < left → isWide s ≡ true → (b : Bool) {p : ℕ} {x : Next} → p ≡ pick b (proposed i tau s) 0

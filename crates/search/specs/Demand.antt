@@ -9,13 +9,13 @@ use lib.Ieee.{Float, eq}
 use Rattle.bits.specs.Arithmetic.{n0}
 use Rattle.series.specs.declared.figures.Anomaly.{Anomaly}
 use Rattle.series.specs.declared.figures.Seconds.{Seconds}
-use Rattle.points.specs.declared.figures.Initial.{Initial}
+use Rattle.search_points.specs.declared.figures.Initial.{Initial}
 use Rattle.search.specs.declared.figures.Answer.{Answer}
 use Rattle.search.specs.declared.figures.Answer.the-variants as answer
-use Rattle.points.specs.declared.figures.Sort.the-variants.{Short, Past, Exact, Unreadable}
-use Rattle.points.specs.Trial.{placeOf, anomalyAt, trialAt}
-use Rattle.history.specs.History.{Point, pointsIn}
-use Rattle.history.specs.Demand.{Findable, AllOutwardShort, SomeUnreadable, LastUnreadable}
+use Rattle.search_points.specs.declared.figures.Sort.the-variants.{Short, Past, Exact, Unreadable}
+use Rattle.search_points.specs.Trial.{placeOf, anomalyAt, trialAt}
+use Rattle.search_rule.specs.History.{Point, pointsIn}
+use Rattle.search_rule.specs.Demand.{Findable, AllOutwardShort, SomeUnreadable, LastUnreadable}
 use Rattle.search.specs.Search.{historyAt}
 
 -- An anomaly's place: the time error there is zero, or it is short and the very next place is past.

@@ -6,15 +6,15 @@ use Rattle.bits.specs.Choice.{pick}
 use Rattle.bits.specs.Arithmetic.{n0}
 use Rattle.series.specs.declared.figures.Anomaly.{Anomaly}
 use Rattle.series.specs.declared.figures.Seconds.{Seconds}
-use Rattle.points.specs.declared.figures.Initial.{Initial}
+use Rattle.search_points.specs.declared.figures.Initial.{Initial}
 use Rattle.search.specs.declared.figures.Answer.{Answer}
 use Rattle.search.specs.declared.figures.Answer.the-variants as answer
-use Rattle.history.specs.declared.pair.Pair.{Pair}
-use Rattle.history.specs.declared.pair.Next.{Next}
-use Rattle.history.specs.declared.pair.Next.the-variants.{Between, Exact, Unreadable, AllShort}
-use Rattle.points.specs.Trial.{placeOf, anomalyAt, trialAt}
-use Rattle.history.specs.History.{History, inward, outward, history, counted}
-use Rattle.proposals.specs.Proposals.{threeProposals}
+use Rattle.search_rule.specs.declared.pair.Pair.{Pair}
+use Rattle.search_rule.specs.declared.pair.Next.{Next}
+use Rattle.search_rule.specs.declared.pair.Next.the-variants.{Between, Exact, Unreadable, AllShort}
+use Rattle.search_points.specs.Trial.{placeOf, anomalyAt, trialAt}
+use Rattle.search_rule.specs.History.{History, inward, outward, history, counted}
+use Rattle.search_proposals.specs.Proposals.{threeProposals}
 
 -- The parts of the history, from a point on at which nothing of what was tried before matters.
 abbrev pub inwardAt : Initial → Seconds → (left : ℕ) → Pair → History

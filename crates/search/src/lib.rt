@@ -2,16 +2,16 @@
 ghost use mathlib.Core.Path.{_≡_};
 ghost use Prim.Native.Nat.{_<_, _^_};
 ghost use lib.Ieee.{neg};
-ghost use Rattle.points.specs.Trial.{trialAt};
-ghost use Rattle.history.specs.History.{counted, outwardStep, stepped};
+ghost use Rattle.search_points.specs.Trial.{trialAt};
+ghost use Rattle.search_rule.specs.History.{counted, outwardStep, stepped};
 ghost use Rattle.search.specs.Search.{outwardAt, inwardAt, answerOf, searchOf};
 use figures::Answer;
-use history::pair;
-use history::pair::Next;
-use history::pair::Pair;
-use history::pair::Step;
-use points::figures::Initial;
-use points::trial;
+use search_points::figures::Initial;
+use search_points::trial;
+use search_rule::pair;
+use search_rule::pair::Next;
+use search_rule::pair::Pair;
+use search_rule::pair::Step;
 use series::Anomaly;
 use series::Seconds;
 

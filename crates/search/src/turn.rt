@@ -4,15 +4,15 @@ ghost use mathlib.Core.Bool.{true};
 ghost use Prim.Native.Nat.{_<_};
 ghost use lib.Dec.{eqb};
 ghost use Rattle.bits.specs.Choice.{pick};
-ghost use Rattle.points.specs.Trial.{trialAt};
-ghost use Rattle.history.specs.History.{attempt, isWide, halfway, counted};
-ghost use Rattle.proposals.specs.Proposals.{proposed};
-use history::pair;
-use history::pair::Next;
-use history::pair::Pair;
-use points::figures::Initial;
-use points::trial;
-use proposals::proposal;
+ghost use Rattle.search_points.specs.Trial.{trialAt};
+ghost use Rattle.search_rule.specs.History.{attempt, isWide, halfway, counted};
+ghost use Rattle.search_proposals.specs.Proposals.{proposed};
+use search_points::figures::Initial;
+use search_points::trial;
+use search_proposals::proposal;
+use search_rule::pair;
+use search_rule::pair::Next;
+use search_rule::pair::Pair;
 use series::Seconds;
 
 // The place to propose, or 0: after a turn that tried a proposed place, the halving place is next.

@@ -1,2 +1,3 @@
--- What each public function leaves open.
+-- What both calls promise, kept; and what each public function leaves open.
+pub mod Demand
 pub mod OneAnswers

@@ -7,22 +7,22 @@ use Rattle.bits.specs.Arithmetic.{n0, isFinite}
 use Rattle.bits.specs.Words.{wordsOf}
 use Rattle.series.specs.declared.figures.Seconds.{Seconds}
 use Rattle.search.specs.Search.{searchOf}
-use Rattle.points.specs.declared.figures.Initial.{Initial}
+use Rattle.search_points.specs.declared.figures.Initial.{Initial}
 use Rattle.search.specs.declared.figures.Answer.{Answer as Found}
 use Rattle.search.specs.declared.figures.Answer.the-variants as found
-use Rattle.arcs.specs.Results.{arcOf, figuresOf, endedOf}
-use Rattle.arcs.specs.declared.figures.Vector.{Vector}
-use Rattle.arcs.specs.declared.figures.State.{State}
-use Rattle.arcs.specs.declared.figures.Results.{Results}
-use Rattle.arcs.specs.declared.figures.Ended.{Ended}
-use Rattle.arcs.specs.declared.figures.Ended.the-variants as ended
-use Rattle.orbits.specs.Words.{readOf}
-use Rattle.orbits.specs.Initial.{begunOf, firstStepOf}
-use Rattle.orbits.specs.declared.figures.Orbit.{Orbit}
-use Rattle.orbits.specs.declared.figures.Read.{Read}
-use Rattle.orbits.specs.declared.figures.Read.the-variants as read
-use Rattle.orbits.specs.declared.figures.Begun.{Begun}
-use Rattle.orbits.specs.declared.figures.Begun.the-variants as begun
+use Rattle.states_arcs.specs.Results.{arcOf, figuresOf, endedOf}
+use Rattle.states_arcs.specs.declared.figures.Vector.{Vector}
+use Rattle.states_arcs.specs.declared.figures.State.{State}
+use Rattle.states_arcs.specs.declared.figures.Results.{Results}
+use Rattle.states_arcs.specs.declared.figures.Ended.{Ended}
+use Rattle.states_arcs.specs.declared.figures.Ended.the-variants as ended
+use Rattle.states_start.specs.Words.{readOf}
+use Rattle.states_start.specs.Initial.{begunOf, firstStepOf}
+use Rattle.states_start.specs.declared.figures.Orbit.{Orbit}
+use Rattle.states_start.specs.declared.figures.Read.{Read}
+use Rattle.states_start.specs.declared.figures.Read.the-variants as read
+use Rattle.states_start.specs.declared.figures.Begun.{Begun}
+use Rattle.states_start.specs.declared.figures.Begun.the-variants as begun
 use Rattle.states.specs.declared.figures.Reached.{Reached}
 use Rattle.states.specs.declared.figures.Reached.the-variants as reached
 use Rattle.states.specs.declared.figures.Answer.{Answer}

@@ -3,18 +3,18 @@ ghost use mathlib.Core.Path.{_≡_};
 ghost use Rattle.states.specs.Call.{refused, answered, reachedBy, reachedFrom, reachedOrbit, reachedOf, endedAnswer, propagateOf};
 use super::figures::Answer;
 use super::figures::Reached;
-use arcs::figures::Ended;
-use arcs::figures::Results;
-use arcs::figures::State;
-use arcs::figures::Vector;
-use arcs::results::arc_at;
-use arcs::results::ended;
-use orbits::Begun;
-use orbits::Orbit;
-use orbits::Read;
-use points::figures::Initial;
+use search_points::figures::Initial;
 use series::Anomaly;
 use series::Seconds;
+use states_arcs::figures::Ended;
+use states_arcs::figures::Results;
+use states_arcs::figures::State;
+use states_arcs::figures::Vector;
+use states_arcs::results::arc_at;
+use states_arcs::results::ended;
+use states_start::Begun;
+use states_start::Orbit;
+use states_start::Read;
 
 // A refusal: its number, the points used so far, and +0 for every other figure.
 pub fn refused_with(refusal: u64, points: u64) -> Answer
@@ -75,7 +75,7 @@ fn reached_by(
 fn reach_from(initial: Initial, state: State, tau: Seconds) -> Reached
     ensures { λ r. ⌜ r ≡ reachedFrom initial state tau ⌝ }
 {
-    let h = orbits::first_step(initial, tau);
+    let h = states_start::first_step(initial, tau);
     if bits::words::is_finite(h.0) {
         return reached_by(initial, state, tau, search::search(initial, tau, h));
     }
@@ -87,7 +87,7 @@ fn reach_orbit(orbit: Orbit) -> Reached
     ensures { λ r. ⌜ r ≡ reachedOrbit orbit ⌝ }
 {
     let state = orbit.state;
-    match orbits::initial_of(orbit.mu, state) {
+    match states_start::initial_of(orbit.mu, state) {
         Begun::Initial(figures) => {
             let tau = orbit.tau;
             reach_from(figures, state, tau)
@@ -100,7 +100,7 @@ fn reach_orbit(orbit: Orbit) -> Reached
 pub fn reach(words: [u64; 8]) -> Reached
     ensures { λ r. ⌜ r ≡ reachedOf words ⌝ }
 {
-    match orbits::orbit_of(words) {
+    match states_start::orbit_of(words) {
         Read::Orbit(orbit) => reach_orbit(orbit),
         Read::NotFinite(_) => Reached::Refused(2, 0),
     }

@@ -2,3 +2,4 @@
 pub mod answer;
 pub mod call;
 pub mod figures;
+pub mod partials;

@@ -1,7 +1,7 @@
 -- A run of another length is left as it was, and the room too; else the two words are written.
 use mathlib.Core.Path.{_∙_, ap}
 use borrow.Author.Needs.{needs}
-use Rattle.results.specs.declared.Outcome.{Outcome}
+use Rattle.files_results.specs.declared.Outcome.{Outcome}
 use Rattle.kelubashi.specs.Face.{outcomeWords}
 use Rattle.kelubashi.proofs.Face.{wrong-length, right-length, left-lent, made-lent}
 use Rattle.kelubashi.proofs.kelubashi1_results.Statement.{statement}

@@ -6,9 +6,9 @@ use mathlib.Core.List.{List}
 use borrow.Author.Needs.{needs}
 use lib.ListN.{length, take}
 use Rattle.io.specs.Counts.{Counts}
-use Rattle.runs.specs.Words.{put}
-use Rattle.results.specs.Results.{resultFile, fits}
-use Rattle.results.specs.declared.Outcome.{Outcome}
+use Rattle.files_words.specs.Words.{put}
+use Rattle.files_results.specs.Results.{resultFile, fits}
+use Rattle.files_results.specs.declared.Outcome.{Outcome}
 use Rattle.propagate.proofs.Longest.{longest, put-first}
 use Rattle.propagate.proofs.results_of.Statement.{statement}
 use Rattle.propagate.proofs.results_of.Tie as tie

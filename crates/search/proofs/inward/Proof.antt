@@ -6,11 +6,11 @@ use borrow.Author.Tests.{not-true, not-false, eq-eqb, ne-eqb}
 use borrow.Author.Needs.{needs}
 use lib.Dec.{eqb}
 use Rattle.bits.specs.Choice.{pick}
-use Rattle.points.specs.Trial.{trialAt}
-use Rattle.proposals.specs.Proposals.{proposed}
-use Rattle.history.specs.History.{pointsIn, counted}
+use Rattle.search_points.specs.Trial.{trialAt}
+use Rattle.search_proposals.specs.Proposals.{proposed}
+use Rattle.search_rule.specs.History.{pointsIn, counted}
 use Rattle.search.specs.Search.{inwardAt}
-use Rattle.history.proofs.Turns.{handed-on, between-used, stage, stage-narrow, stage-none, may-propose, one-or-none}
+use Rattle.search_rule.proofs.Turns.{handed-on, between-used, stage, stage-narrow, stage-none, may-propose, one-or-none}
 use Rattle.search.proofs.Turns.{search-turn}
 use Rattle.search.proofs.inward.Statement.{statement}
 use Rattle.search.proofs.inward.Tie as tie

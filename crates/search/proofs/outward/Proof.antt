@@ -4,10 +4,10 @@ use mathlib.Core.Path.{_≡_, refl, sym, _∙_}
 use native.Mathlib.Omega.{arith}
 use borrow.Author.Needs.{needs}
 use lib.Ieee.{neg}
-use Rattle.points.specs.Trial.{trialAt}
-use Rattle.history.specs.History.{outward, outwardStep, counted}
+use Rattle.search_points.specs.Trial.{trialAt}
+use Rattle.search_rule.specs.History.{outward, outwardStep, counted}
 use Rattle.search.specs.Search.{outwardAt}
-use Rattle.history.proofs.Turns.{outward-turn, outward-none, stops, goes-on}
+use Rattle.search_rule.proofs.Turns.{outward-turn, outward-none, stops, goes-on}
 use Rattle.search.proofs.outward.Statement.{statement}
 use Rattle.search.proofs.outward.Tie as tie
 

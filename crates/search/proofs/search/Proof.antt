@@ -9,14 +9,14 @@ use lib.Ieee.{neg, eq}
 use Rattle.bits.specs.Arithmetic.{n0}
 use Rattle.series.specs.declared.figures.Anomaly.{Anomaly}
 use Rattle.series.specs.declared.figures.Seconds.{Seconds}
-use Rattle.points.specs.declared.figures.Initial.{Initial}
-use Rattle.history.specs.declared.pair.Next.{Next}
-use Rattle.points.specs.Trial.{placeOf, trialAt}
-use Rattle.proposals.specs.Proposals.{proposed, threeProposals}
-use Rattle.history.specs.History.{outward, inward, history, counted}
+use Rattle.search_points.specs.declared.figures.Initial.{Initial}
+use Rattle.search_rule.specs.declared.pair.Next.{Next}
+use Rattle.search_points.specs.Trial.{placeOf, trialAt}
+use Rattle.search_proposals.specs.Proposals.{proposed, threeProposals}
+use Rattle.search_rule.specs.History.{outward, inward, history, counted}
 use Rattle.search.specs.Search.{outwardAt, inwardAt, historyAt, answerOf, searchOf}
-use Rattle.history.proofs.Counts.{outward-points}
-use Rattle.history.proofs.Turns.{after, followed, between-used, handed-on, inward-same}
+use Rattle.search_rule.proofs.Counts.{outward-points}
+use Rattle.search_rule.proofs.Turns.{after, followed, between-used, handed-on, inward-same}
 use Rattle.search.proofs.search.Statement.{statement}
 use Rattle.search.proofs.search.Tie as tie
 

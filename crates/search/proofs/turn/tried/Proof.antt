@@ -1,9 +1,9 @@
 -- The pair moved by what is tried. The place is above 0: the offered one isn't 0, and the halving place of a wide pair lies above its short end.
 use mathlib.Core.Path.{_∙_}
 use borrow.Author.Needs.{needs}
-use Rattle.points.proofs.Points.{above-zero}
-use Rattle.history.specs.History.{counted}
-use Rattle.history.proofs.Turns.{place-above}
+use Rattle.search_points.proofs.Points.{above-zero}
+use Rattle.search_rule.specs.History.{counted}
+use Rattle.search_rule.proofs.Turns.{place-above}
 use Rattle.search.proofs.turn.tried.Statement.{statement}
 use Rattle.search.proofs.turn.tried.Tie as tie
 

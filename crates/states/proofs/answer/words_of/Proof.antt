@@ -1,7 +1,7 @@
 -- Each word is what `word_of` ensures of its figure.
 use mathlib.Core.List.{[], _∷_}
 use borrow.Author.Needs.{needs}
-use Rattle.arcs.specs.Results.{figuresOf}
+use Rattle.states_arcs.specs.Results.{figuresOf}
 use Rattle.states.specs.Call.{answerWords}
 use Rattle.states.proofs.answer.words_of.Statement.{statement}
 use Rattle.states.proofs.answer.words_of.Tie as tie

@@ -1,0 +1,22 @@
+-- The test, at the section's limit.
+use Prim.Native.Nat.{ℕ}
+use mathlib.Core.Path.{ap, _∙_}
+use borrow.Author.Needs.{needs}
+use lib.Dec.{leb}
+use Rattle.files_sections.specs.Sections.{need}
+use Rattle.files.proofs.check_limit.Statement.{statement}
+use Rattle.files.proofs.check_limit.Tie as tie
+
+limit-requires : tie.Need-limit-requires
+limit-requires c κs = search needs
+
+need-requires : tie.Need-need-requires
+need-requires c κs = search needs
+
+returns : tie.Need-returns
+returns c =
+    let a = c .before .before .args in
+    c .need .ensures ∙ ap (λ (l : ℕ). need (leb (a .count) l) 23 (a .place)) (c .before .limit .ensures)
+
+pub check-limit-spec : {M : Type 1} → statement M
+check-limit-spec = tie.close (tie.spec limit-requires need-requires returns)

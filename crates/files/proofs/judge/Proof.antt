@@ -1,0 +1,112 @@
+-- What comes later is asked only of whole records, and then only of runs within their limits.
+use Prim.Native.Nat.{ℕ}
+use mathlib.Core.Path.{_≡_, sym, ap, ap₂, _∙_}
+use borrow.Author.Needs.{needs}
+use lib.ListN.{length}
+use Rattle.files_sections.specs.declared.Section.the-variants.{Centres, States, Requests}
+use Rattle.files_sections.specs.declared.Check.{Check}
+use Rattle.files_sections.specs.Sections.{_⟫_}
+use Rattle.files_sections.proofs.CheckLaws.{stops, goes-on}
+use Rattle.files.specs.Writer.{recordsIn, limitChecks, roomCheck, refusalOf, Within}
+use Rattle.files.proofs.WriteLaws.{limits-sound}
+use Rattle.files.proofs.judge.Statement.{statement}
+use Rattle.files.proofs.judge.Tie as tie
+
+-- the second check, of the counts that the runs have
+limits : (c : tie.After-check-limits) →
+    let a = c .before .before .before .before .before .before .before .before .before .before .args in
+    c .check-limits .result
+    ≡ limitChecks (recordsIn Centres (length (a .centres .now))) (recordsIn States (length (a .states .now))) (recordsIn Requests (length (a .requests .now)))
+limits c =
+    c .check-limits .ensures
+    ∙ ap₂ (λ (f : ℕ → Check) (n : ℕ). f n) (ap₂ limitChecks (c .before .before .before .records .ensures) (c .before .before .records2 .ensures)) (c .before .records3 .ensures)
+
+-- a sound one bounds them
+within : (c : tie.After-enum-told3) →
+    let a = c .before .before .before .before .before .before .before .before .before .before .before .before .args in
+    Within (length (a .centres .now)) (length (a .states .now)) (length (a .requests .now))
+within c =
+    let l = limits-sound _ _ _ (sym (limits (c .before .before)) ∙ c .enum-told3 .given .1) in
+    record { few-centres = l .0; few-states = l .1; few-requests = l .2 }
+
+check-wholes-requires : tie.Need-check-wholes-requires
+check-wholes-requires c κs = search needs
+
+enum-told : tie.Need-enum-told
+enum-told c = search needs
+
+enum-told-2 : tie.Need-enum-told-2
+enum-told-2 c = search needs
+
+returns : tie.Need-returns
+unfolding refusalOf
+returns c = stops _ _ _ (c .before .before .check-wholes .ensures) (c .enum-told2 .given .1)
+
+records-requires : tie.Need-records-requires
+records-requires c κs = search needs
+
+records-requires-2 : tie.Need-records-requires-2
+records-requires-2 c κs = search needs
+
+records-requires-3 : tie.Need-records-requires-3
+records-requires-3 c κs = search needs
+
+check-limits-requires : tie.Need-check-limits-requires
+check-limits-requires c κs = search needs
+
+enum-told-3 : tie.Need-enum-told-3
+enum-told-3 c = search needs
+
+enum-told-4 : tie.Need-enum-told-4
+enum-told-4 c = search needs
+
+returns-2 : tie.Need-returns-2
+unfolding refusalOf
+returns-2 c =
+    let p = c .before .before .before .before .before .before in
+    goes-on (p .before .before .check-wholes .ensures) (p .enum-told .given .1) (stops _ _ _ (limits (c .before .before)) (c .enum-told4 .given .1))
+
+file-length-requires : tie.Need-file-length-requires
+file-length-requires c κs = within c
+
+check-numbers-requires : tie.Need-check-numbers-requires
+check-numbers-requires c κs = within (c .before)
+
+check-room-requires : tie.Need-check-room-requires
+check-room-requires c κs = search needs
+
+first-requires : tie.Need-first-requires
+first-requires c κs = search needs
+
+returns-3 : tie.Need-returns-3
+unfolding refusalOf
+returns-3 c =
+    let q = c .before .before .before .before in
+    let p = q .before .before .before .before .before .before in
+    let room = p .before .before .before .before .before .before .args .room in
+    goes-on (p .before .before .check-wholes .ensures) (p .enum-told .given .1)
+    (goes-on (limits (q .before .before)) (q .enum-told3 .given .1)
+    (c .first .ensures
+    ∙ ap₂ _⟫_ (c .before .before .check-numbers .ensures)
+    (c .before .check-room .ensures ∙ ap (λ (n : ℕ). roomCheck n room) (c .before .before .before .file-length .ensures))))
+
+pub judge-spec : {M : Type 1} → statement M
+judge-spec =
+    tie.close
+    (tie.spec
+    check-wholes-requires
+    enum-told
+    enum-told-2
+    returns
+    records-requires
+    records-requires-2
+    records-requires-3
+    check-limits-requires
+    enum-told-3
+    enum-told-4
+    returns-2
+    file-length-requires
+    check-numbers-requires
+    check-room-requires
+    first-requires
+    returns-3)

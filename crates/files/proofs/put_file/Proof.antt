@@ -1,0 +1,79 @@
+-- The edition, then the sections, each right after the one before.
+use Prim.Native.Nat.{ℕ}
+use mathlib.Core.Path.{ap, ap₂, _∙_}
+use borrow.Author.Needs.{needs}
+use Rattle.files_words.specs.Words.{written, put}
+use Rattle.files_sections.specs.declared.Section.the-variants.{States, Requests}
+use Rattle.files_sections.specs.Sections.{statesPlace, requestsPlace}
+use Rattle.files.specs.Writer.{sectionWords}
+use Rattle.files.proofs.WriteLaws.{file-put}
+use Rattle.files.proofs.put_file.Statement.{statement}
+use Rattle.files.proofs.put_file.Tie as tie
+
+records-requires : tie.Need-records-requires
+records-requires c κs = search needs
+
+cast-c : tie.Need-cast-c
+cast-c c = search needs
+
+records-requires-2 : tie.Need-records-requires-2
+records-requires-2 c κs = search needs
+
+cast-s : tie.Need-cast-s
+cast-s c = search needs
+
+put-word-requires : tie.Need-put-word-requires
+put-word-requires c κs = search needs
+
+put-section-requires : tie.Need-put-section-requires
+put-section-requires c κs = search needs
+
+states-place-requires : tie.Need-states-place-requires
+states-place-requires c κs = search needs
+
+put-section-requires-2 : tie.Need-put-section-requires-2
+put-section-requires-2 c κs = search needs
+
+requests-place-requires : tie.Need-requests-place-requires
+requests-place-requires c κs = search needs
+
+put-section-requires-3 : tie.Need-put-section-requires-3
+put-section-requires-3 c κs = search needs
+
+same-length : tie.Need-same-length
+same-length c = search needs
+
+returns : tie.Need-returns
+returns c =
+    let p3 = c .before .before in
+    let p2 = p3 .before .before .before .before .before in
+    let p1 = p2 .before .before .before .before .before in
+    let p0 = p1 .before .before .before .before in
+    let start = p0 .before .before .before .before .before .before .before .before in
+    let a = start .args in
+    let e = p0 .before .before .before .records .ensures in
+    let f = p0 .before .before .records2 .ensures in
+    file-put (a .centres .now) (a .states .now) (a .requests .now) (a .room .now)
+    (p0 .put-word .last .0) (p1 .put-section .last .0) (p2 .put-section2 .last .0) (p3 .put-section3 .last .0)
+    (start .pre)
+    (p0 .put-word .ensures)
+    (p1 .put-section .ensures)
+    (p2 .put-section2 .ensures ∙ ap (λ (p : ℕ). put (p1 .put-section .last .0) p (written (sectionWords States (a .states .now)))) (p2 .before .states-place .ensures ∙ ap statesPlace e))
+    (p3 .put-section3 .ensures ∙ ap (λ (p : ℕ). put (p2 .put-section2 .last .0) p (written (sectionWords Requests (a .requests .now)))) (p3 .before .requests-place .ensures ∙ ap₂ requestsPlace e f))
+
+pub put-file-spec : {M : Type 1} → statement M
+put-file-spec =
+    tie.close
+    (tie.spec
+    records-requires
+    cast-c
+    records-requires-2
+    cast-s
+    put-word-requires
+    put-section-requires
+    states-place-requires
+    put-section-requires-2
+    requests-place-requires
+    put-section-requires-3
+    same-length
+    returns)

@@ -1,0 +1,46 @@
+-- The count, and its words after it.
+use Prim.Native.Nat.{ℕ, _+_}
+use native.Mathlib.Omega.{arith}
+use mathlib.Core.Path.{sym, ap, _∙_}
+use mathlib.Core.List.{List}
+use borrow.Author.Needs.{needs}
+use lib.ListN.{length}
+use Rattle.files_words.specs.Words.{bytesOf, written, put}
+use Rattle.files_words.proofs.PutLaws.{first-put}
+use Rattle.files.specs.Writer.{recordsIn}
+use Rattle.files.proofs.put_section.Statement.{statement}
+use Rattle.files.proofs.put_section.Tie as tie
+
+records-requires : tie.Need-records-requires
+records-requires c κs = search needs
+
+put-word-requires : tie.Need-put-word-requires
+put-word-requires c κs = search needs
+
+add-put-words : tie.Need-add-put-words
+add-put-words c = search needs
+
+put-words-requires : tie.Need-put-words-requires
+put-words-requires c κs = search needs
+
+same-length : tie.Need-same-length
+same-length c = search needs
+
+returns : tie.Need-returns
+returns c =
+    let a = c .before .before .before .before .before .before .before .before .before .before .before .args in
+    c .before .before .put-words .ensures
+    ∙ ap (λ (d : List ℕ). put d (a .place + 8) (written (a .run .now)))
+    (c .before .before .before .before .before .before .put-word .ensures ∙ ap (λ (n : ℕ). put (a .room .now) (a .place) (bytesOf 8 n)) (c .before .before .before .before .before .before .before .records .ensures))
+    ∙ sym (first-put (a .room .now) (a .place) (recordsIn (a .section) (length (a .run .now))) (a .run .now) (omega (arith, c .before .before .before .before .before .before .before .before .before .before .before .pre)))
+
+pub put-section-spec : {M : Type 1} → statement M
+put-section-spec =
+    tie.close
+    (tie.spec
+    records-requires
+    put-word-requires
+    add-put-words
+    put-words-requires
+    same-length
+    returns)

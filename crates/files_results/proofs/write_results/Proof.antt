@@ -1,0 +1,63 @@
+-- Each arm is the definition at what the reader answered.
+use mathlib.Core.Path.{sym, _∙_, ap}
+use borrow.Author.Needs.{needs}
+use Rattle.files_words.specs.Words.{written, put}
+use Rattle.files_reader.specs.declared.Reading.{Reading}
+use Rattle.files_results.specs.Results.{resultBy, resultFile, fits}
+use Rattle.files_results.proofs.write_results.Statement.{statement}
+use Rattle.files_results.proofs.write_results.Tie as tie
+
+read-file-requires : tie.Need-read-file-requires
+read-file-requires c κs = search needs
+
+enum-known-places : tie.Need-enum-known-places
+enum-known-places c = search needs
+
+write-accepted-requires : tie.Need-write-accepted-requires
+write-accepted-requires c κs = sym (c .before .before .before .before .read-file .ensures) ∙ c .before .before .places .given .1
+
+enum-known-number : tie.Need-enum-known-number
+enum-known-number c = search needs
+
+write-refused-requires : tie.Need-write-refused-requires
+write-refused-requires c κs = search needs
+
+same-length : tie.Need-same-length
+same-length c = search needs
+
+returns : tie.Need-returns
+unfolding resultFile
+returns c =
+    let a = c .before .before .before .before .before .before .before .before .before .before .args in
+    let e = sym (c .before .before .before .before .before .places .given .1) ∙ c .before .before .before .before .before .before .before .read-file .ensures in
+    let w = c .before .before .write-accepted .ensures in (
+      w .0 ∙ ap (λ (r : Reading). fits (written (resultBy (a .file .now) r)) (a .room .now)) e,
+      w .1 ∙ ap (λ (r : Reading). put (a .room .now) 0 (written (resultBy (a .file .now) r))) e,
+    )
+
+same-length-2 : tie.Need-same-length-2
+same-length-2 c = search needs
+
+returns-2 : tie.Need-returns-2
+unfolding resultFile
+returns-2 c =
+    let a = c .before .before .before .before .before .before .before .before .before .before .args in
+    let e = sym (c .before .before .before .before .before .number .given .1) ∙ c .before .before .before .before .before .before .before .read-file .ensures in
+    let w = c .before .before .write-refused .ensures in (
+      w .0 ∙ ap (λ (r : Reading). fits (written (resultBy (a .file .now) r)) (a .room .now)) e,
+      w .1 ∙ ap (λ (r : Reading). put (a .room .now) 0 (written (resultBy (a .file .now) r))) e,
+    )
+
+pub write-results-spec : {M : Type 1} → statement M
+write-results-spec =
+    tie.close
+    (tie.spec
+    read-file-requires
+    enum-known-places
+    write-accepted-requires
+    enum-known-number
+    write-refused-requires
+    same-length
+    returns
+    same-length-2
+    returns-2)

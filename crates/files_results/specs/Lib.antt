@@ -1,0 +1,4 @@
+-- Layer 5: the words of a request, the result file, and the marked cases. Read the files in this order.
+pub mod Requests
+pub mod Results
+pub mod Marked

@@ -1,0 +1,36 @@
+-- By whether there is room.
+use Prim.Native.Nat.{_+_}
+use mathlib.Core.Path.{sym, _∙_}
+use borrow.Author.Needs.{needs}
+use borrow.Author.Tests.{leb-true, leb-false}
+use lib.ListN.{length}
+use Rattle.files_words.specs.Words.{bytesOf}
+use Rattle.files_words.proofs.PutLaws.{put-outside}
+use Rattle.files_words.proofs.put_word.Statement.{statement}
+use Rattle.files_words.proofs.put_word.Tie as tie
+
+is-whole-requires : tie.Need-is-whole-requires
+is-whole-requires c κs = search needs
+
+put-bytes-requires : tie.Need-put-bytes-requires
+put-bytes-requires c κs = leb-true (c .before .before .before .before .before .args .place + 8) (length (c .before .before .before .before .before .args .room .now)) (sym (c .before .before .is-whole .ensures) ∙ c .before .if1 .taken)
+
+same-length : tie.Need-same-length
+same-length c = search needs
+
+returns : tie.Need-returns
+returns c = search needs
+
+same-length-2 : tie.Need-same-length-2
+same-length-2 c = search needs
+
+returns-2 : tie.Need-returns-2
+unfolding bytesOf
+returns-2 c =
+    let a = c .before .before .before .before .args in
+    sym (put-outside (a .room .now) (bytesOf 8 (a .word)) (a .place) (leb-false (c .before .before .before .before .args .place + 8) (length (c .before .before .before .before .args .room .now)) (sym (c .before .is-whole .ensures) ∙ c .if1 .left)))
+
+pub put-word-spec : {M : Type 1} → statement M
+put-word-spec =
+    tie.close
+    (tie.spec is-whole-requires put-bytes-requires same-length returns same-length-2 returns-2)

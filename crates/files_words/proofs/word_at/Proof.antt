@@ -1,0 +1,29 @@
+-- By whether the word is whole.
+use Prim.Native.Nat.{_+_}
+use mathlib.Core.Path.{sym, _∙_}
+use borrow.Author.Needs.{needs}
+use borrow.Author.Tests.{leb-true, leb-false}
+use lib.ListN.{length}
+use Rattle.files_words.proofs.WordLaws.{word-whole, word-missing}
+use Rattle.files_words.proofs.word_at.Statement.{statement}
+use Rattle.files_words.proofs.word_at.Tie as tie
+
+is-whole-requires : tie.Need-is-whole-requires
+is-whole-requires c κs = search needs
+
+whole-word-requires : tie.Need-whole-word-requires
+whole-word-requires c κs = leb-true (c .before .before .before .args .place + 8) (length (c .before .before .before .args .file .now)) (sym (c .before .is-whole .ensures) ∙ c .if1 .taken)
+
+returns : tie.Need-returns
+returns c =
+    let a = c .before .before .before .before .args in
+    c .whole-word .ensures
+    ∙ sym (word-whole (a .file .now) (a .place) (leb-true (c .before .before .before .before .args .place + 8) (length (c .before .before .before .before .args .file .now)) (sym (c .before .before .is-whole .ensures) ∙ c .before .if1 .taken)))
+
+returns-2 : tie.Need-returns-2
+returns-2 c =
+    let a = c .before .before .before .args in
+    sym (word-missing (a .file .now) (a .place) (leb-false (c .before .before .before .args .place + 8) (length (c .before .before .before .args .file .now)) (sym (c .before .is-whole .ensures) ∙ c .if1 .left)))
+
+pub word-at-spec : {M : Type 1} → statement M
+word-at-spec = tie.close (tie.spec is-whole-requires whole-word-requires returns returns-2)

@@ -1,2 +1,0 @@
--- Layer 5: the words of a request.
-pub mod Requests

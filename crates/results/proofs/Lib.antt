@@ -1,3 +1,0 @@
--- Lemmas on rows and places, and what each public function leaves open.
-pub mod Rows
-pub mod OneAnswers

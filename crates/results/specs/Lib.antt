@@ -1,3 +1,0 @@
--- Layer 5: the result file.
-pub mod Results
-pub mod Marked

@@ -1,0 +1,162 @@
+-- What the code's proofs cite of one trial point: words with a sign, the four sorts by another order of tests, and places that need no test of their own.
+use Prim.Native.Nat.{ℕ, zero, suc, _+_, _*_, _/_, _%_, _^_, _≤_, _<_}
+use mathlib.Core.Path.{_≡_, refl, sym, ap, _∙_}
+use mathlib.Core.Bool.{Bool, true, false, not, cond, true≢false}
+use native.Mathlib.Omega.{arith}
+use borrow.Author.Tests.{ltb-true, ltb-false, le-leb, lt-leb, eq-eqb, ne-eqb}
+use lib.Dec.{leb, eqb}
+use lib.Ieee.{Float, nan, inf, fin, binary64, up, down, below, level, neg, mul, lt, eq, ne, odd, ofFields, ofBits}
+use Rattle.bits.specs.Choice.{pick}
+use Rattle.bits.specs.Arithmetic.{_⊗_, n0, isFinite}
+use Rattle.bits.specs.Words.{fieldOf, infinity}
+use Rattle.series.specs.Series.{firstL, coefficientsOf, sumsOf}
+use Rattle.series.specs.declared.figures.Anomaly.{Anomaly}
+use Rattle.series.specs.declared.figures.FirstSums.{FirstSums}
+use Rattle.series.specs.declared.figures.Seconds.{Seconds}
+use Rattle.search_points.specs.declared.figures.Initial.{Initial}
+use Rattle.search_points.specs.declared.figures.Sort.the-variants.{Short, Past, Exact, Unreadable}
+use Rattle.search_points.specs.declared.trial.Trial.{Trial}
+use Rattle.search_points.specs.Residual.{timeErrorOf}
+use Rattle.search_points.specs.Trial.{anomalyAt, sortOf, unevaluated, evaluatedAt, trialAt}
+
+-- ---- A word with its sign bit set is the negative of the word without it.
+neg-odd : (d : ℕ) (q k l : ℕ) → odd d true q k l ≡ neg (odd d false q k l)
+unfolding odd neg
+neg-odd d zero k l = refl
+neg-odd d (suc q) k l = refl
+
+neg-fields : (x t : ℕ) → ofFields binary64 true x t ≡ neg (ofFields binary64 false x t)
+unfolding ofFields neg
+neg-fields zero t = neg-odd 53 t 0 1074
+neg-fields (suc x) t = by-test (eqb (suc x) 2047)
+  where
+    special : (b : Bool) → cond b (inf true) nan ≡ neg (cond b (inf false) nan)
+    special true = refl
+    special false = refl
+
+    by-test : (b : Bool) → cond b (cond (eqb t 0) (inf true) nan) (odd 53 true (2 ^ 52 + t) x 1074) ≡ neg (cond b (cond (eqb t 0) (inf false) nan) (odd 53 false (2 ^ 52 + t) x 1074))
+    by-test true = special (eqb t 0)
+    by-test false = neg-odd 53 (2 ^ 52 + t) x 1074
+
+neg-word : (p : ℕ) → p < 2 ^ 63 → ofBits binary64 (p + 2 ^ 63) ≡ neg (ofBits binary64 p)
+unfolding ofBits
+neg-word p h =
+    let s : leb (2 ^ 63) (p + 2 ^ 63) ≡ true = le-leb (2 ^ 63) (p + 2 ^ 63) (omega arith) in
+    let u : leb (2 ^ 63) p ≡ false = lt-leb (2 ^ 63) p h in
+    let m : (p + 2 ^ 63) % 2 ^ 63 ≡ p % 2 ^ 63 = omega arith in
+    let d : (p + 2 ^ 63) % 2 ^ 52 ≡ p % 2 ^ 52 = omega arith in
+    simp (s, u, m, d) (neg-fields (p % 2 ^ 63 / 2 ^ 52) (p % 2 ^ 52))
+
+pub signed-word : (b : Bool) (p : ℕ) → p < 2 ^ 63 → ofBits binary64 (p + pick b (2 ^ 63) 0) ≡ pick b (neg (ofBits binary64 p)) (ofBits binary64 p)
+signed-word true p h = neg-word p h
+signed-word false p h = ap (ofBits binary64) (omega arith)
+
+pub sign-bound : (b : Bool) → pick b (2 ^ 63) 0 ≤ 2 ^ 63
+sign-bound true = omega arith
+sign-bound false = omega arith
+
+pub signed-field : (b : Bool) (p : ℕ) → p < infinity → fieldOf (p + pick b (2 ^ 63) 0) ≤ 2046
+signed-field true p h = omega arith
+signed-field false p h = omega arith
+
+-- ---- A double above or below zero is neither a NaN nor a zero; one that is neither above nor below nor equal is a NaN.
+module _ (a z : ℕ) (e : z ≡ 0) where
+  fin-above : (s : Bool) → below false z s a ≡ true → level s a false z ≡ false
+  fin-above false h = rw (ne-eqb a z (λ q. omega (arith, ltb-true z a h)))
+  fin-above true h = absurd (true≢false (sym h))
+
+  fin-below : (s : Bool) → below s a false z ≡ true → level s a false z ≡ false
+  fin-below false h = absurd (omega (arith, ltb-true a z h))
+  fin-below true h = rw (ne-eqb a z (λ q. omega (arith, ltb-true 0 (a + z) h)))
+
+  fin-neither : (s : Bool) → below false z s a ≡ false → below s a false z ≡ false → level s a false z ≡ true
+  fin-neither false g h = rw (eq-eqb a z (omega (arith, ltb-false z a g)))
+  fin-neither true g h = let q : a ≡ 0 = omega (arith, ltb-false 0 (a + z) h) in simp (eq-eqb a z (omega arith), eq-eqb a 0 q)
+
+fin-same : (s : Bool) (a : ℕ) → level s a s a ≡ true
+fin-same true a = rw (eq-eqb a a refl)
+fin-same false a = rw (eq-eqb a a refl)
+
+above : (x : Float) → lt n0 x ≡ true → (ne x x ≡ false) × (eq x n0 ≡ false)
+unfolding ofBits lt eq ne
+above nan h = absurd (true≢false (sym h))
+above (inf true) h = (refl, refl)
+above (inf false) h = (refl, refl)
+above (fin s m x) h = (ap not (fin-same s (m * up x * down x)), fin-above (m * up x * 1) (0 * 1 * down x) (omega arith) s h)
+
+under : (x : Float) → lt x n0 ≡ true → (ne x x ≡ false) × (eq x n0 ≡ false)
+unfolding ofBits lt eq ne
+under nan h = absurd (true≢false (sym h))
+under (inf true) h = (refl, refl)
+under (inf false) h = (refl, refl)
+under (fin s m x) h = (ap not (fin-same s (m * up x * down x)), fin-below (m * up x * 1) (0 * 1 * down x) (omega arith) s h)
+
+zero-same : (x : Float) → eq x n0 ≡ true → ne x x ≡ false
+unfolding ofBits eq ne
+zero-same nan h = absurd (true≢false (sym h))
+zero-same (inf s) h = absurd (true≢false (sym h))
+zero-same (fin s m x) h = ap not (fin-same s (m * up x * down x))
+
+neither : (x : Float) → lt n0 x ≡ false → lt x n0 ≡ false → eq x n0 ≡ false → ne x x ≡ true
+unfolding ofBits lt eq ne
+neither nan g h e = refl
+neither (inf true) g h e = absurd (true≢false h)
+neither (inf false) g h e = absurd (true≢false g)
+neither (fin s m x) g h e = absurd (true≢false (sym (fin-neither (m * up x * 1) (0 * 1 * down x) (omega arith) s g h) ∙ e))
+
+-- So the sort may be told by the two signs first.
+module _ (tau : Seconds) (x : Float) where
+  pub short-back : lt (tau .0) n0 ≡ true → lt n0 x ≡ true → Short x ≡ sortOf tau x
+  unfolding sortOf
+  short-back b h = let f = above x h in simp (f .0, f .1, b, h)
+
+  pub past-back : lt (tau .0) n0 ≡ true → lt n0 x ≡ false → lt x n0 ≡ true → Past x ≡ sortOf tau x
+  unfolding sortOf
+  past-back b g h = let f = under x h in simp (f .0, f .1, b, g)
+
+  pub short-on : lt (tau .0) n0 ≡ false → lt x n0 ≡ true → Short x ≡ sortOf tau x
+  unfolding sortOf
+  short-on b h = let f = under x h in simp (f .0, f .1, b, h)
+
+  pub past-on : lt (tau .0) n0 ≡ false → lt x n0 ≡ false → lt n0 x ≡ true → Past x ≡ sortOf tau x
+  unfolding sortOf
+  past-on b g h = let f = above x h in simp (f .0, f .1, b, g)
+
+  -- An error without a sign: exact, or unreadable. An infinite one has a sign.
+  pub unsigned : lt n0 x ≡ false → lt x n0 ≡ false → pick (eq x n0) Exact Unreadable ≡ sortOf tau x
+  unfolding sortOf
+  unsigned g h = by-test (eq x n0) refl
+    where
+      by-test : (b : Bool) → eq x n0 ≡ b → pick b Exact Unreadable ≡ sortOf tau x
+      by-test true e = simp (zero-same x e, e)
+      by-test false e = simp (neither x g h e)
+
+-- ---- The point of psi by what the parts of the code answer.
+module _ (i : Initial) (tau : Seconds) (psi : Anomaly) where
+  pub finite-point : (f : FirstSums) {r : Trial} → isFinite (firstL (i .alpha) psi) ≡ true
+      → f ≡ record { c0 = coefficientsOf (i .alpha) psi .c0; sums = sumsOf psi (coefficientsOf (i .alpha) psi) }
+      → r ≡ record { sort = sortOf tau (timeErrorOf i tau (f .sums)); c0 = f .c0; s1 = f .sums .s1; s2 = f .sums .s2 } → r ≡ evaluatedAt i tau psi
+  unfolding evaluatedAt
+  finite-point f h e g = simp h (g ∙ ap (λ (x : FirstSums). record { sort = sortOf tau (timeErrorOf i tau (x .sums)); c0 = x .c0; s1 = x .sums .s1; s2 = x .sums .s2 }) e)
+
+  pub no-point : {r : Trial} → isFinite (firstL (i .alpha) psi) ≡ false → r ≡ unevaluated Unreadable → r ≡ evaluatedAt i tau psi
+  unfolding evaluatedAt
+  no-point h g = simp h g
+
+-- ---- A psi that is not finite leaves no finite L, so a place above 0 needs no test of its own.
+beyond : (i : Initial) (tau : Seconds) (place : ℕ) → leb infinity place ≡ true → evaluatedAt i tau (anomalyAt tau place) ≡ unevaluated Unreadable
+unfolding evaluatedAt anomalyAt mul
+beyond i tau place h = simp (h, no-finite (i .alpha))
+  where
+    no-finite : (alpha : Float) → isFinite (alpha ⊗ (nan ⊗ nan)) ≡ false
+    no-finite nan = refl
+    no-finite (inf s) = refl
+    no-finite (fin s m e) = refl
+
+pub above-zero : (i : Initial) (tau : Seconds) (place : ℕ) → 0 < place → evaluatedAt i tau (anomalyAt tau place) ≡ trialAt i tau place
+unfolding trialAt
+above-zero i tau place h = rw (ne-eqb place 0 (λ e. omega arith)) (by-test (leb infinity place) refl)
+  where
+    by-test : (b : Bool) → leb infinity place ≡ b → evaluatedAt i tau (anomalyAt tau place) ≡ pick b (unevaluated Unreadable) (evaluatedAt i tau (anomalyAt tau place))
+    by-test true e = beyond i tau place e
+    by-test false e = refl

@@ -1,0 +1,12 @@
+-- The code is the definition written out.
+use mathlib.Core.Path.{refl}
+use Rattle.search_points.specs.Residual.{timeErrorOf}
+use Rattle.search_points.proofs.residual.time_error.Statement.{statement}
+use Rattle.search_points.proofs.residual.time_error.Tie as tie
+
+returns : tie.Need-returns
+unfolding timeErrorOf
+returns c = refl
+
+pub time-error-spec : {M : Type 1} → statement M
+time-error-spec = tie.close (tie.spec returns)

@@ -1,0 +1,41 @@
+-- Where L is finite, the point is what the series and the time error give.
+use mathlib.Core.Path.{sym, _∙_}
+use borrow.Author.Needs.{needs}
+use Rattle.search_points.specs.Trial.{evaluatedAt}
+use Rattle.search_points.proofs.trial.evaluated.Statement.{statement}
+use Rattle.search_points.proofs.trial.evaluated.Tie as tie
+
+is-finite-requires : tie.Need-is-finite-requires
+is-finite-requires c κs = search needs
+
+coefficients-requires : tie.Need-coefficients-requires
+coefficients-requires c κs = search needs
+
+sums-requires : tie.Need-sums-requires
+sums-requires c κs = search needs
+
+point-of-requires : tie.Need-point-of-requires
+point-of-requires c κs = search needs
+
+returns : tie.Need-returns
+unfolding evaluatedAt
+returns c = simp (sym (c .before .before .before .before .is-finite .ensures) ∙ c .before .before .before .if1 .taken) (simp (c .before .sums .ensures, c .before .before .coefficients .ensures) at (c .point-of .ensures))
+
+unevaluated-as-requires : tie.Need-unevaluated-as-requires
+unevaluated-as-requires c κs = search needs
+
+returns-2 : tie.Need-returns-2
+unfolding evaluatedAt
+returns-2 c = simp (sym (c .before .before .is-finite .ensures) ∙ c .before .if1 .left) (c .unevaluated-as .ensures)
+
+pub evaluated-spec : {M : Type 1} → statement M
+evaluated-spec =
+    tie.close
+    (tie.spec
+    is-finite-requires
+    coefficients-requires
+    sums-requires
+    point-of-requires
+    returns
+    unevaluated-as-requires
+    returns-2)

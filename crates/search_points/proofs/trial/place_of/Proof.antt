@@ -1,0 +1,15 @@
+-- The word without its sign bit.
+use mathlib.Core.Path.{ap}
+use Prim.Native.Nat.{ℕ, _%_, _^_}
+use borrow.Author.Needs.{needs}
+use Rattle.search_points.proofs.trial.place_of.Statement.{statement}
+use Rattle.search_points.proofs.trial.place_of.Tie as tie
+
+word-of-requires : tie.Need-word-of-requires
+word-of-requires c κs = search needs
+
+returns : tie.Need-returns
+returns c = ap (λ (w : ℕ). w % 2 ^ 63) (c .word-of .ensures)
+
+pub place-of-spec : {M : Type 1} → statement M
+place-of-spec = tie.close (tie.spec word-of-requires returns)

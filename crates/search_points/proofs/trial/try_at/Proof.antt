@@ -1,0 +1,32 @@
+-- Place 0, and the others, of which the places of no double need no test of their own.
+use native.Mathlib.Omega.{arith}
+use mathlib.Core.Path.{ap, _∙_}
+use borrow.Author.Tests.{eq-eqb}
+use borrow.Author.Needs.{needs}
+use Rattle.search_points.specs.Trial.{evaluatedAt, trialAt}
+use Rattle.search_points.proofs.Points.{above-zero}
+use Rattle.search_points.proofs.trial.try_at.Statement.{statement}
+use Rattle.search_points.proofs.trial.try_at.Tie as tie
+
+unevaluated-as-requires : tie.Need-unevaluated-as-requires
+unevaluated-as-requires c κs = search needs
+
+returns : tie.Need-returns
+unfolding trialAt
+returns c = simp (eq-eqb _ _ (c .before .before .if1 .taken)) (c .unevaluated-as .ensures)
+
+anomaly-at-requires : tie.Need-anomaly-at-requires
+anomaly-at-requires c κs = search needs
+
+evaluated-requires : tie.Need-evaluated-requires
+evaluated-requires c κs = search needs
+
+returns-2 : tie.Need-returns-2
+returns-2 c =
+    let a = c .before .before .before .args in
+    c .evaluated .ensures ∙ ap (evaluatedAt (a .initial) (a .tau)) (c .before .anomaly-at .ensures) ∙ above-zero (a .initial) (a .tau) (a .place) (omega arith)
+
+pub try-at-spec : {M : Type 1} → statement M
+try-at-spec =
+    tie.close
+    (tie.spec unevaluated-as-requires returns anomaly-at-requires evaluated-requires returns-2)

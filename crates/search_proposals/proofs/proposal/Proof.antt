@@ -1,0 +1,32 @@
+-- The first that is not 0, as `orElse` picks it.
+use borrow.Author.Tests.{eq-eqb, ne-eqb}
+use borrow.Author.Needs.{needs}
+use Rattle.search_proposals.specs.Proposals.{proposed}
+use Rattle.search_proposals.proofs.proposal.Statement.{statement}
+use Rattle.search_proposals.proofs.proposal.Tie as tie
+
+by-radius-requires : tie.Need-by-radius-requires
+by-radius-requires c κs = search needs
+
+returns : tie.Need-returns
+unfolding proposed
+returns c = simp (← (c .before .by-radius .ensures), ne-eqb _ _ (c .if1 .taken))
+
+by-interval-requires : tie.Need-by-interval-requires
+by-interval-requires c κs = search needs
+
+returns-2 : tie.Need-returns-2
+unfolding proposed
+returns-2 c = simp (← (c .before .before .before .by-radius .ensures), eq-eqb _ _ (c .before .before .if1 .left), ← (c .before .by-interval .ensures), ne-eqb _ _ (c .if2 .taken))
+
+by-ends-requires : tie.Need-by-ends-requires
+by-ends-requires c κs = search needs
+
+returns-3 : tie.Need-returns-3
+unfolding proposed
+returns-3 c = simp (← (c .before .before .before .before .by-radius .ensures), eq-eqb _ _ (c .before .before .before .if1 .left), ← (c .before .before .by-interval .ensures), eq-eqb _ _ (c .before .if2 .left)) (c .by-ends .ensures)
+
+pub proposal-spec : {M : Type 1} → statement M
+proposal-spec =
+    tie.close
+    (tie.spec by-radius-requires returns by-interval-requires returns-2 by-ends-requires returns-3)

@@ -1,0 +1,89 @@
+-- How many points a history has, for any trial function and any proposal: one for a halving, two a round, one for each outward place.
+use Prim.Native.Nat.{ℕ, zero, suc, _+_, _*_, _^_, _≤_}
+use mathlib.Core.Path.{_≡_, refl, ap, _∙_}
+use mathlib.Core.Bool.{Bool, true, false}
+use mathlib.Core.List.{List, [], _∷_, _++_}
+use native.Mathlib.Omega.{arith}
+use lib.ListN.{length}
+use lib.Ieee.{Float}
+use Rattle.bits.specs.Choice.{pick}
+use Rattle.search_rule.specs.declared.pair.Pair.{Pair}
+use Rattle.search_rule.specs.declared.pair.Next.{Next}
+use Rattle.search_rule.specs.declared.pair.Next.the-variants as next
+use Rattle.search_rule.specs.History.{Point, Trials, Proposal, End, between, exact, unreadable, allShort, History, tries, ends, pointsIn, endOf, onward, Outward, on, stop, outwardStep, goingOn, outward, attempt, isWide, halfway, halving, isInside, round, inward, history, ended, counted}
+
+abbrev pub points : History → ℕ
+points h = length (pointsIn h)
+
+-- ---- The count that the code keeps is the history's length.
+pub counted-is : (n : ℕ) (h : History) → counted n h ≡ ended (n + points h) (endOf h)
+unfolding counted pointsIn endOf
+counted-is n (tries p h) = counted-is (n + 1) h ∙ ap (λ (k : ℕ). ended k (endOf h)) (omega arith)
+counted-is n (ends e) = ap (λ (k : ℕ). ended k e) (omega arith)
+
+abbrev pub used : Next → ℕ
+used (next.Between s n) = n
+used (next.Exact p n) = n
+used (next.Unreadable n) = n
+used (next.AllShort n) = n
+
+used-ended : (n : ℕ) (e : End) → used (ended n e) ≡ n
+used-ended n (between s) = refl
+used-ended n (exact p) = refl
+used-ended n unreadable = refl
+used-ended n allShort = refl
+
+pub used-is : (n : ℕ) (h : History) → used (counted n h) ≡ n + points h
+used-is n h = ap used (counted-is n h) ∙ used-ended (n + points h) (endOf h)
+
+-- ---- The parts of a history.
+pick-points : (b : Bool) (x y : History) (k : ℕ) → points x ≤ k → points y ≤ k → points (pick b x y) ≤ k
+pick-points true x y k h g = h
+pick-points false x y k h g = g
+
+pub onward-points : (k : ℕ) (tried : List Point) (h : History) (f : List Point → Pair → History) → ((l : List Point) (s : Pair) → points (f l s) ≤ k) → points (onward tried h f) ≤ points h + k
+unfolding pointsIn onward
+onward-points k tried (tries p h) f g = omega (arith, onward-points k (tried ++ (p ∷ [])) h f g)
+onward-points k tried (ends (between s)) f g = omega (arith, g tried s)
+onward-points k tried (ends (exact p)) f g = omega arith
+onward-points k tried (ends unreadable) f g = omega arith
+onward-points k tried (ends allShort) f g = omega arith
+
+module _ (ev : Trials) where
+  pub halving-points : (s : Pair) → points (halving ev s) ≤ 1
+  unfolding pointsIn halving
+  halving-points s = pick-points (isWide s) (attempt ev s (halfway s)) (ends (between s)) 1 (omega arith) (omega arith)
+
+  on-points : (o : Outward) (f : Float → History) (k : ℕ) → ((r : Float) → points (f r) ≤ k) → points (goingOn o f) ≤ k
+  unfolding pointsIn
+  on-points (on r) f k h = h r
+  on-points (stop e) f k h = omega arith
+
+  pub outward-points : (k short : ℕ) (error : Float) (place : ℕ) → points (outward ev k short error place) ≤ k
+  unfolding pointsIn outward
+  outward-points zero short error place = omega arith
+  outward-points (suc k) short error place =
+      omega (arith, on-points (outwardStep short error place (ev place)) (λ r. outward ev k place r (place + 2 ^ 52)) k (λ r. outward-points k place r (place + 2 ^ 52)))
+
+  module _ (pr : Proposal) where
+    pub round-points : (k : ℕ) (tried : List Point) (s : Pair) → points (round ev pr k tried s) ≤ 2
+    unfolding pointsIn round
+    round-points k tried s =
+        let place = pr k tried s in
+        pick-points (isInside s place) (onward tried (attempt ev s place) (λ _. halving ev)) (halving ev s) 2
+        (omega (arith, onward-points 1 tried (attempt ev s place) (λ _. halving ev) (λ _ s'. halving-points s')))
+        (omega (arith, halving-points s))
+
+    pub inward-points : (left k : ℕ) (tried : List Point) (s : Pair) → points (inward ev pr left k tried s) ≤ 2 * left
+    unfolding pointsIn inward
+    inward-points zero k tried s = omega arith
+    inward-points (suc left) k tried s =
+        pick-points (isWide s) (onward tried (round ev pr k tried s) (inward ev pr left (k + 1))) (ends (between s)) (2 * suc left)
+        (omega (arith, onward-points (2 * left) tried (round ev pr k tried s) (inward ev pr left (k + 1)) (inward-points left (k + 1)), round-points k tried s))
+        (omega arith)
+
+    -- "At most 63 rounds, so 41 + 126 = 167 points"
+    pub history-points : (first : ℕ) (error : Float) → points (history ev pr first error) ≤ 167
+    unfolding history
+    history-points first error =
+        omega (arith, onward-points 126 [] (outward ev 41 0 error first) (inward ev pr 63 0) (inward-points 63 0), outward-points 41 0 error first)

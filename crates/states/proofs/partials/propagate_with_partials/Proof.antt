@@ -1,0 +1,83 @@
+-- A run of another length is refused first; else each arm is the definition at where the search led.
+use Prim.Native.Nat.{ℕ}
+use mathlib.Core.Path.{_≡_, sym, _∙_, ap}
+use mathlib.Core.Bool.{Bool}
+use mathlib.Core.List.{List}
+use borrow.Author.Tests.{eq-eqb, ne-eqb}
+use borrow.Author.Needs.{needs}
+use lib.ListN.{length}
+use Rattle.bits.specs.Choice.{pick}
+use Rattle.states.specs.declared.figures.Reached.{Reached}
+use Rattle.states.specs.Call.{refused, reachedOf}
+use Rattle.states.specs.WithPartials.{partialsBy, lentBy, partialsOf, lentOf}
+use Rattle.states.proofs.partials.propagate_with_partials.Statement.{statement}
+use Rattle.states.proofs.partials.propagate_with_partials.Tie as tie
+
+module _ (words run : List ℕ) where
+  wrong-length : (length run ≡ 36 → ⊥) → (refused 1 0 ≡ partialsOf words run) × (run ≡ lentOf words run)
+  unfolding partialsOf lentOf
+  wrong-length h =
+      let e = sym (ne-eqb (length run) 36 h) in (
+        ap (λ (t : Bool). pick t (partialsBy (reachedOf words) run) (refused 1 0)) e,
+        ap (λ (t : Bool). pick t (lentBy (reachedOf words) run) run) e,
+      )
+
+  right-length : length run ≡ 36 → {x : Reached} → x ≡ reachedOf words → (partialsBy x run ≡ partialsOf words run) × (lentBy x run ≡ lentOf words run)
+  unfolding partialsOf lentOf
+  right-length h p =
+      let e = sym (eq-eqb (length run) 36 h) in (
+        ap (λ (y : Reached). partialsBy y run) p ∙ ap (λ (t : Bool). pick t (partialsBy (reachedOf words) run) (refused 1 0)) e,
+        ap (λ (y : Reached). lentBy y run) p ∙ ap (λ (t : Bool). pick t (lentBy (reachedOf words) run) run) e,
+      )
+
+refused-with-requires : tie.Need-refused-with-requires
+refused-with-requires c κs = search needs
+
+returns : tie.Need-returns
+returns c = let w = wrong-length (c .before .before .before .args .words) _ (c .before .if1 .taken) in (c .refused-with .ensures ∙ w .0, w .1)
+
+reach-requires : tie.Need-reach-requires
+reach-requires c κs = search needs
+
+enum-known-arc : tie.Need-enum-known-arc
+enum-known-arc c = search needs
+
+end-with-partials-requires : tie.Need-end-with-partials-requires
+end-with-partials-requires c κs = search needs
+
+enum-known-refusal : tie.Need-enum-known-refusal
+enum-known-refusal c = search needs
+
+refused-with-requires-2 : tie.Need-refused-with-requires-2
+refused-with-requires-2 c κs = search needs
+
+same-length : tie.Need-same-length
+same-length c = search needs
+
+returns-2 : tie.Need-returns-2
+returns-2 c =
+    let a = c .before .before .before .before .before .before .before .before .before .before .args in
+    let w = c .before .before .end-with-partials in
+    let r = right-length (a .words) (a .run .now) (c .before .before .before .before .before .before .before .before .if1 .left) (sym (c .before .before .before .before .before .arc .given .1) ∙ c .before .before .before .before .before .before .before .reach .ensures) in
+    (w .ensures .0 ∙ r .0, w .ensures .1 ∙ r .1)
+
+returns-3 : tie.Need-returns-3
+returns-3 c =
+    let a = c .before .before .before .before .before .before .before .args in
+    let r = right-length (a .words) (a .run .now) (c .before .before .before .before .before .if1 .left) (sym (c .before .before .refusal .given .1) ∙ c .before .before .before .before .reach .ensures) in
+    (c .refused-with2 .ensures ∙ r .0, r .1)
+
+pub propagate-with-partials-spec : {M : Type 1} → statement M
+propagate-with-partials-spec =
+    tie.close
+    (tie.spec
+    refused-with-requires
+    returns
+    reach-requires
+    enum-known-arc
+    end-with-partials-requires
+    enum-known-refusal
+    refused-with-requires-2
+    same-length
+    returns-2
+    returns-3)

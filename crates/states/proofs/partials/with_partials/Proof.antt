@@ -1,0 +1,68 @@
+-- What `write_partials` answers decides between the two.
+use Prim.Native.Nat.{ℕ}
+use mathlib.Core.Path.{_≡_, sym, _∙_, ap}
+use mathlib.Core.Bool.{Bool}
+use mathlib.Core.List.{List}
+use borrow.Author.Tests.{eq-eqb, ne-eqb}
+use borrow.Author.Needs.{needs}
+use lib.Dec.{eqb}
+use Rattle.bits.specs.Choice.{pick}
+use Rattle.states_arcs.specs.declared.figures.Arc.{Arc}
+use Rattle.states_arcs.specs.declared.figures.Results.{Results}
+use Rattle.states_partials.specs.Partials.{refusalOf}
+use Rattle.states.specs.declared.figures.Answer.{Answer}
+use Rattle.states.specs.Call.{refused, answered}
+use Rattle.states.specs.WithPartials.{withPartials}
+use Rattle.states.proofs.partials.with_partials.Statement.{statement}
+use Rattle.states.proofs.partials.with_partials.Tie as tie
+
+module _ (arc : Arc) (n : ℕ) (r : Results) (run : List ℕ) where
+  by : ℕ → Answer
+  by k = pick (eqb k 0) (answered n r) (refused k n)
+
+  refuses : {k : ℕ} → k ≡ refusalOf arc run → (k ≡ 0 → ⊥) → refused k n ≡ withPartials arc n r run
+  unfolding withPartials by
+  refuses {k} e z = sym (ap (λ (t : Bool). pick t (answered n r) (refused k n)) (ne-eqb k 0 z)) ∙ ap by e
+
+  answers : {k : ℕ} → k ≡ refusalOf arc run → k ≡ 0 → answered n r ≡ withPartials arc n r run
+  unfolding withPartials by
+  answers {k} e z = sym (ap (λ (t : Bool). pick t (answered n r) (refused k n)) (eq-eqb k 0 z)) ∙ ap by e
+
+write-partials-requires : tie.Need-write-partials-requires
+write-partials-requires c κs = search needs
+
+refused-with-requires : tie.Need-refused-with-requires
+refused-with-requires c κs = search needs
+
+same-length : tie.Need-same-length
+same-length c = search needs
+
+returns : tie.Need-returns
+returns c =
+    let a = c .before .before .before .before .before .before .before .args in
+    let w = c .before .before .before .before .write-partials in
+    (c .refused-with .ensures ∙ refuses (a .arc) (a .points) (a .results) _ (w .ensures .0) (c .before .if1 .taken), w .ensures .1)
+
+answered-with-requires : tie.Need-answered-with-requires
+answered-with-requires c κs = search needs
+
+same-length-2 : tie.Need-same-length-2
+same-length-2 c = search needs
+
+returns-2 : tie.Need-returns-2
+returns-2 c =
+    let a = c .before .before .before .before .before .before .before .args in
+    let w = c .before .before .before .before .write-partials in
+    (c .answered-with .ensures ∙ answers (a .arc) (a .points) (a .results) _ (w .ensures .0) (c .before .if1 .left), w .ensures .1)
+
+pub with-partials-spec : {M : Type 1} → statement M
+with-partials-spec =
+    tie.close
+    (tie.spec
+    write-partials-requires
+    refused-with-requires
+    same-length
+    returns
+    answered-with-requires
+    same-length-2
+    returns-2)

@@ -1,0 +1,55 @@
+-- Each part is what its call ensures.
+use mathlib.Core.Path.{_≡_}
+use borrow.Author.Needs.{needs}
+use lib.Ieee.{Float}
+use Rattle.series.specs.Series.{coefficientsOf, sumsOf}
+use Rattle.series.specs.declared.figures.Anomaly.{Anomaly}
+use Rattle.series.specs.declared.figures.Coefficients.{Coefficients}
+use Rattle.series.specs.declared.figures.Seconds.{Seconds}
+use Rattle.series.specs.declared.figures.Sums.{Sums}
+use Rattle.search_points.specs.Residual.{radiusOf}
+use Rattle.search_points.specs.declared.figures.Initial.{Initial}
+use Rattle.states_arcs.specs.Results.{factorsOf, endOf, arcOf}
+use Rattle.states_arcs.specs.declared.figures.Factors.{Factors}
+use Rattle.states_arcs.specs.declared.figures.State.{State}
+use Rattle.states_arcs.proofs.results.arc_at.Statement.{statement}
+use Rattle.states_arcs.proofs.results.arc_at.Tie as tie
+
+module _ (i : Initial) (tau : Seconds) (psi : Anomaly) (start : State) (c : Coefficients) (s : Sums) (r : Float) (k : Factors) (end : State) where
+  assembled : c ≡ coefficientsOf (i .alpha) psi → s ≡ sumsOf psi c → r ≡ radiusOf i (c .c0) (s .s1) (s .s2) → k ≡ factorsOf i tau s r → end ≡ endOf k start
+      → record { initial = i; tau = tau; psi = psi; c = c; s = s; r = r; factors = k; start = start; end = end } ≡ arcOf i tau psi start
+  unfolding arcOf
+  assembled ec es er ek ee = rw (ee, ek, er, es, ec)
+
+coefficients-requires : tie.Need-coefficients-requires
+coefficients-requires c κs = search needs
+
+sums-requires : tie.Need-sums-requires
+sums-requires c κs = search needs
+
+radius-requires : tie.Need-radius-requires
+radius-requires c κs = search needs
+
+factors-at-requires : tie.Need-factors-at-requires
+factors-at-requires c κs = search needs
+
+end-of-requires : tie.Need-end-of-requires
+end-of-requires c κs = search needs
+
+returns : tie.Need-returns
+returns c =
+    let k = c .before in
+    let r = k .before in
+    let s = r .before in
+    assembled _ _ _ _ _ _ _ _ _ (s .before .coefficients .ensures) (s .sums .ensures) (r .radius .ensures) (k .factors-at .ensures) (c .end-of .ensures)
+
+pub arc-at-spec : {M : Type 1} → statement M
+arc-at-spec =
+    tie.close
+    (tie.spec
+    coefficients-requires
+    sums-requires
+    radius-requires
+    factors-at-requires
+    end-of-requires
+    returns)

@@ -1,0 +1,94 @@
+-- Document 01, "Results and partials", its first paragraph, with refusals 7 and 8.
+use mathlib.Core.List.{List, [], _∷_, _++_}
+use lib.Ieee.{Float, lt, neg}
+use Rattle.bits.specs.Choice.{pick}
+use Rattle.bits.specs.Arithmetic.{_⊕_, _⊖_, _⊗_, _⊘_, n0, n1}
+use Rattle.series.specs.Series.{coefficientsOf, sumsOf}
+use Rattle.series.specs.declared.figures.Anomaly.{Anomaly}
+use Rattle.series.specs.declared.figures.Seconds.{Seconds}
+use Rattle.series.specs.declared.figures.Sums.{Sums}
+use Rattle.search_points.specs.Residual.{radiusOf}
+use Rattle.search_points.specs.declared.figures.Initial.{Initial}
+use Rattle.states_arcs.specs.Finite.{allFinite, anyZero}
+use Rattle.states_arcs.specs.declared.figures.Vector.{Vector}
+use Rattle.states_arcs.specs.declared.figures.State.{State}
+use Rattle.states_arcs.specs.declared.figures.Factors.{Factors}
+use Rattle.states_arcs.specs.declared.figures.Arc.{Arc}
+use Rattle.states_arcs.specs.declared.figures.Results.{Results}
+use Rattle.states_arcs.specs.declared.figures.Ended.{Ended}
+use Rattle.states_arcs.specs.declared.figures.Ended.the-variants as ended
+
+-- "f = 1−(μ·s2)/r0; g = τ−μ·s3; f' = −((μ·s1)/(r·r0)); g' = 1−(μ·s2)/r"
+unfoldable pub factorsOf : Initial → Seconds → Sums → (r : Float) → Factors
+factorsOf i tau s r =
+    record {
+      f = n1 ⊖ (i .mu ⊗ s .s2) ⊘ i .r0;
+      g = tau .0 ⊖ i .mu ⊗ s .s3;
+      fprime = neg ((i .mu ⊗ s .s1) ⊘ (r ⊗ i .r0));
+      gprime = n1 ⊖ (i .mu ⊗ s .s2) ⊘ r;
+    }
+
+-- "f·x+g·vx and so on"
+abbrev pub combined : (f g : Float) (position velocity : Vector) → Vector
+combined f g q u = record { x = f ⊗ q .x ⊕ g ⊗ u .x; y = f ⊗ q .y ⊕ g ⊗ u .y; z = f ⊗ q .z ⊕ g ⊗ u .z }
+
+-- "Position is f·x+g·vx and so on, velocity f'·x+g'·vx."
+unfoldable pub endOf : Factors → State → State
+endOf k s =
+    record {
+      position = combined (k .f) (k .g) (s .position) (s .velocity);
+      velocity = combined (k .fprime) (k .gprime) (s .position) (s .velocity);
+    }
+
+-- All of this at the found ψ, with its c0 to c5, its s1 to s3 and its r.
+unfoldable pub arcOf : Initial → Seconds → Anomaly → State → Arc
+arcOf i tau psi start =
+    let c = coefficientsOf (i .alpha) psi in
+    let s = sumsOf psi c in
+    let r = radiusOf i (c .c0) (s .s1) (s .s2) in
+    let k = factorsOf i tau s r in
+    record { initial = i; tau = tau; psi = psi; c = c; s = s; r = r; factors = k; start = start; end = endOf k start }
+
+-- "Acceleration is ((−μ)·x)/((r·r)·r) with the position and radius of its own time."
+unfoldable pub accelerationOf : (mu r : Float) → Vector → Vector
+accelerationOf mu r q =
+    record {
+      x = (neg mu ⊗ q .x) ⊘ ((r ⊗ r) ⊗ r);
+      y = (neg mu ⊗ q .y) ⊘ ((r ⊗ r) ⊗ r);
+      z = (neg mu ⊗ q .z) ⊘ ((r ⊗ r) ⊗ r);
+    }
+
+unfoldable pub resultsOf : Arc → Results
+resultsOf a =
+    record {
+      end = a .end;
+      «end_acceleration» = accelerationOf (a .initial .mu) (a .r) (a .end .position);
+      «start_acceleration» = accelerationOf (a .initial .mu) (a .initial .r0) (a .start .position);
+      psi = a .psi;
+    }
+
+-- The divisors of f, f', g' and of the acceleration at the end and at the start.
+unfoldable pub divisorsOf : (r0 r : Float) → List Float
+divisorsOf r0 r = r0 ∷ (r ⊗ r0) ∷ r ∷ ((r ⊗ r) ⊗ r) ∷ ((r0 ⊗ r0) ⊗ r0) ∷ []
+
+-- "A figure of the answer": position, velocity, both accelerations and ψ.
+abbrev pub components : Vector → List Float
+components v = v .x ∷ v .y ∷ v .z ∷ []
+
+unfoldable pub figuresOf : Results → List Float
+figuresOf r =
+    components (r .end .position)
+    ++ components (r .end .velocity)
+    ++ components (r .«end_acceleration»)
+    ++ components (r .«start_acceleration»)
+    ++ (r .psi .0 ∷ [])
+
+-- Refusal 7: "r at the found ψ isn't greater than zero". Refusal 8: "a divisor under Results and partials is zero, or a figure of the answer isn't finite",
+-- without the partials' own, which crate `partials` adds.
+unfoldable pub endedOf : Arc → Ended
+endedOf a =
+    pick (lt n0 (a .r))
+    (pick (anyZero (divisorsOf (a .initial .r0) (a .r))) (ended.Refused 8)
+    (pick (allFinite (figuresOf (resultsOf a))) (ended.Results (resultsOf a))
+    (ended.Refused 8)))
+    (ended.Refused 7)

@@ -1,0 +1,86 @@
+// The 36 partials, row by row.
+ghost use mathlib.Core.Path.{_≡_};
+ghost use Rattle.states_partials.specs.Entries.{plusOf, minusOf, componentOf, unitOf, entryOf, entriesOf};
+use super::matrix::Matrix;
+use super::matrix::matrix_of;
+use super::matrix::u_of;
+use states_arcs::figures::Arc;
+use states_arcs::figures::Vector;
+
+// A partial of the position: k·I and the four products.
+fn plus(k: f64, unit: f64, a: f64, b: f64, c: f64, d: f64, p: f64, w: f64, q: f64, u: f64) -> f64
+    ensures { λ r. ⌜ r ≡ plusOf k unit a b c d p w q u ⌝ }
+{
+    k * unit + ((a * p * q + b * p * u) + (c * w * q + d * w * u))
+}
+
+// A partial of the velocity: k·I less the four products.
+fn minus(k: f64, unit: f64, a: f64, b: f64, c: f64, d: f64, p: f64, w: f64, q: f64, u: f64) -> f64
+    ensures { λ r. ⌜ r ≡ minusOf k unit a b c d p w q u ⌝ }
+{
+    k * unit - ((a * p * q + b * p * u) + (c * w * q + d * w * u))
+}
+
+// Component 0, 1 or 2 of a vector.
+fn component(v: Vector, i: usize) -> f64
+    ensures { λ r. ⌜ r ≡ componentOf v i ⌝ }
+{
+    if i == 0 {
+        return v.x;
+    }
+    if i == 1 {
+        return v.y;
+    }
+    v.z
+}
+
+// I: 1 for like components, else +0.
+fn unit_of(i: usize, j: usize) -> f64
+    ensures { λ r. ⌜ r ≡ unitOf i j ⌝ }
+{
+    if i == j { 1.0 } else { 0.0 }
+}
+
+// The partial in a row and a column, 0 to 5 each.
+fn entry(arc: Arc, a: Matrix, row: usize, column: usize) -> f64
+    ensures { λ r. ⌜ r ≡ entryOf arc a row column ⌝ }
+{
+    let factors = arc.factors;
+    let to = arc.end;
+    let from = arc.start;
+    let i = row % 3;
+    let j = column % 3;
+    let p = component(to.position, i);
+    let w = component(to.velocity, i);
+    let q = component(from.position, j);
+    let u = component(from.velocity, j);
+    let unit = unit_of(i, j);
+    if row < 3 {
+        if column < 3 {
+            return plus(factors.f, unit, a.a21, a.a22, a.a31, a.a32, p, w, q, u);
+        }
+        return plus(factors.g, unit, a.a22, a.a23, a.a32, a.a33, p, w, q, u);
+    }
+    if column < 3 {
+        return minus(factors.fprime, unit, a.a11, a.a12, a.a21, a.a22, p, w, q, u);
+    }
+    minus(factors.gprime, unit, a.a12, a.a13, a.a22, a.a23, p, w, q, u)
+}
+
+// The 36 partials, row by row. The columns have their own loop, so that the compiler can write a row's six out: which formula an entry has is then known.
+pub fn entries(arc: Arc) -> [f64; 36]
+    ensures { λ r. ⌜ r ≡ entriesOf arc ⌝ }
+{
+    let a = matrix_of(arc, u_of(arc));
+    let mut table = [0.0; 36];
+    let mut row = 0usize;
+    while row < 6 {
+        let mut column = 0usize;
+        while column < 6 {
+            table[6 * row + column] = entry(arc, a, row, column);
+            column += 1;
+        }
+        row += 1;
+    }
+    table
+}

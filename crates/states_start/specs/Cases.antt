@@ -1,0 +1,41 @@
+-- A word that is not finite, and the initial figures of one orbit, evaluated from the definitions; the figures come from an independent program. Document 01's
+-- marked cases are in the table of crate `results`.
+use mathlib.Core.Path.{_≡_, refl}
+use mathlib.Core.List.{List, [], _∷_}
+use Prim.Native.Nat.{ℕ}
+use lib.Ieee.{binary64, add, sub, mul, div, eq, ofBits, toBits}
+use Rattle.bits.specs.Root.{rootWordOf, rootOf}
+use Rattle.search_points.specs.declared.figures.Initial.{Initial}
+use Rattle.states_arcs.specs.Finite.{allFinite}
+use Rattle.states_start.specs.Words.{firstNotFinite, orbit, readOf}
+use Rattle.states_start.specs.Initial.{dot, begunOf, firstStepOf}
+use Rattle.states_start.specs.declared.figures.Read.the-variants as read
+use Rattle.states_start.specs.declared.figures.Begun.the-variants as begun
+
+-- The first word that is not finite is named: here the velocity's y, an infinity.
+named : readOf (0 ∷ 0 ∷ 0 ∷ 0 ∷ 0 ∷ 0x7ff0000000000000 ∷ 0 ∷ 0xfff8000000000000 ∷ []) ≡ read.NotFinite 5
+unfolding firstNotFinite readOf ofBits
+named = refl
+
+-- μ = 1, position (1, 0.25, -0.5), velocity (0.125, 1, 0.5), τ = 1.5: r0, σ0, α and H.
+an-orbit : List ℕ
+an-orbit =
+    0x3ff0000000000000 ∷ 0x3ff0000000000000 ∷ 0x3fd0000000000000 ∷ 0xbfe0000000000000
+    ∷ 0x3fc0000000000000 ∷ 0x3ff0000000000000 ∷ 0x3fe0000000000000 ∷ 0x3ff8000000000000
+    ∷ []
+
+its-initial : Initial
+its-initial =
+    record {
+      mu = ofBits binary64 0x3ff0000000000000;
+      r0 = ofBits binary64 0x3ff2548eb9151e85;
+      sigma0 = ofBits binary64 0x3fc0000000000000;
+      alpha = ofBits binary64 0xbfdeba415bee70e4;
+    }
+
+figures :
+    (readOf an-orbit ≡ read.Orbit (orbit an-orbit))
+    × (begunOf (orbit an-orbit .mu) (orbit an-orbit .state) ≡ begun.Initial its-initial)
+    × (firstStepOf its-initial (orbit an-orbit .tau) .0 ≡ ofBits binary64 0x3eb4f2ec413cb52b)
+unfolding an-orbit its-initial firstNotFinite readOf dot begunOf allFinite firstStepOf rootWordOf rootOf add sub mul div eq ofBits toBits
+figures = (refl, refl, refl)
