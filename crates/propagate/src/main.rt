@@ -66,7 +66,7 @@ fn propagate(fd: i32, name: &[u8]) {
 fn answer(file: &[u8]) {
     let mut room = [0u8; 132016];
     let length = results_of(file, &mut room);
-    if !streams::write_whole(STDOUT_FILENO, &room[..length]) {
+    if let Taken::Failed = streams::write_whole(STDOUT_FILENO, &room[..length]) {
         os::fail(b"standard output");
     }
 }

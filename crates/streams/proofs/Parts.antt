@@ -1,20 +1,25 @@
 -- What POSIX promises of an answer, as what a loop needs of it.
-use Prim.Native.Nat.{ℕ, zero, suc, _<_, _≤_}
+use Prim.Native.Nat.{ℕ, zero, suc, _+_, _-_, _<_, _≤_}
 use native.Mathlib.Omega.{arith}
 use mathlib.Core.Bool.{Bool, true, false}
-use mathlib.Core.Path.{_≡_, sym, ap, subst, _∙_}
+use mathlib.Core.Path.{_≡_, refl, sym, ap, subst, _∙_}
 use mathlib.Core.List.{List}
+use borrow.Author.Tests.{eqb-false}
+use lib.Dec.{eqb}
 use lib.IntN.{ℤ, pos, negsuc}
 use mir.Syntax.{w64}
 use mir.Val.{toZ, ofZ, SFits}
 use mir.Facts.{toZ-ofZ}
+use Rattle.bits.specs.Choice.{pick}
 use Rattle.io.specs.Counts.{Counts}
 use Rattle.libc.specs.Io.{Moved}
-use Rattle.streams.specs.declared.Call.{Call}
-use Rattle.streams.specs.declared.Call.the-variants as variant
-use Rattle.streams.specs.declared.Taken.{Taken}
-use Rattle.streams.specs.declared.Taken.the-variants.{Bytes}
-use Rattle.streams.specs.Calls.{callOf, Part, Within}
+use Rattle.streams.specs.declared.calls.Call.{Call}
+use Rattle.streams.specs.declared.calls.Call.the-variants as variant
+use Rattle.streams.specs.declared.calls.Then.{Then}
+use Rattle.streams.specs.declared.calls.Then.the-variants as next
+use Rattle.streams.specs.declared.calls.Taken.{Taken}
+use Rattle.streams.specs.declared.calls.Taken.the-variants.{Bytes}
+use Rattle.streams.specs.Calls.{callOf, Part, afterOf, Within}
 
 part-of : (got : ℤ) (signal : Bool) (most : ℕ) → Moved most got → Part (callOf got signal) most
 part-of (pos zero) signal most h = tt
@@ -28,6 +33,36 @@ part got signal most f e h = subst (λ (c : Call). Part c most) (sym (e ∙ ap (
 
 pub moved : {call : Call} {n most : ℕ} → call ≡ variant.Moved n → Part call most → (0 < n) × (n ≤ most)
 moved {most = most} e p = subst (λ (c : Call). Part c most) e p
+
+-- What is left after a call, or the patience, is less than before it.
+pub record Less (left patience left′ patience′ : ℕ) : Type 0 where
+  pub no-more : left′ ≤ left
+  pub sooner : left′ + patience′ < left + patience
+
+step : (call : Call) (left patience left′ patience′ : ℕ) → Part call left → afterOf call left patience ≡ next.On left′ patience′ → Less left patience left′ patience′
+step (variant.Moved n) left patience left′ patience′ p e =
+    let l : left - n ≡ left′ = cc in
+    let q : patience ≡ patience′ = cc in
+    record { no-more = omega arith; sooner = omega arith }
+step variant.Nothing left patience left′ patience′ p e = absurd (let z : _≡_ {A = ℕ} 0 1 = cc in omega arith)
+step variant.Interrupted left patience left′ patience′ p e = by-patience (eqb patience 0) refl e
+  where
+    by-patience : (b : Bool) → eqb patience 0 ≡ b → pick b next.GiveUp (next.On left (patience - 1)) ≡ next.On left′ patience′ → Less left patience left′ patience′
+    by-patience true h e = absurd (let z : _≡_ {A = ℕ} 0 1 = cc in omega arith)
+    by-patience false h e =
+        let l : left ≡ left′ = cc in
+        let q : patience - 1 ≡ patience′ = cc in
+        let some : patience ≡ 0 → ⊥ = eqb-false patience 0 h in
+        record { no-more = omega arith; sooner = omega arith }
+step variant.Failed left patience left′ patience′ p e = absurd (let z : _≡_ {A = ℕ} 0 1 = cc in omega arith)
+
+-- A call that was handed all that is left.
+pub handed : {most left : ℕ} (call : Call) → Part call most → most ≡ left → Part call left
+handed call p e = subst (Part call) e p
+
+pub less : {then : Then} {most left′ patience′ : ℕ} (call : Call) (left patience : ℕ) → Part call most → most ≡ left → then ≡ afterOf call left patience → then ≡ next.On left′ patience′ →
+    Less left patience left′ patience′
+less call left patience p h e n = step call left patience _ _ (handed call p h) (sym e ∙ n)
 
 -- The bytes that a caller then takes from the room.
 pub taken : {answer : Taken} {n : ℕ} (room : List ℕ) → answer ≡ Bytes n → Within answer room → Counts n room

@@ -1,8 +1,8 @@
 -- By what the C library promises of the one call.
 use borrow.Author.Needs.{needs}
 use Rattle.streams.proofs.Parts.{part}
-use Rattle.streams.proofs.write_some.Statement.{statement}
-use Rattle.streams.proofs.write_some.Tie as tie
+use Rattle.streams.proofs.output.write_some.Statement.{statement}
+use Rattle.streams.proofs.output.write_some.Tie as tie
 
 write-requires : tie.Need-write-requires
 write-requires c κs = search needs

@@ -1,8 +1,8 @@
 -- By what the C library promises of the one call.
 use borrow.Author.Needs.{needs}
 use Rattle.streams.proofs.Parts.{part}
-use Rattle.streams.proofs.read_some.Statement.{statement}
-use Rattle.streams.proofs.read_some.Tie as tie
+use Rattle.streams.proofs.input.read_some.Statement.{statement}
+use Rattle.streams.proofs.input.read_some.Tie as tie
 
 read-requires : tie.Need-read-requires
 read-requires c κs = search needs

@@ -10,10 +10,10 @@ use mir.Val.{toZ, ofZ}
 use mir.Facts.{toZ-ofZ, fits-natAbs, sfits-toZ, fits-ofZ}
 use native.Mathlib.Omega.{arith}
 use borrow.Author.Tests.{ltb-true, ltb-false}
-use Rattle.streams.specs.declared.Call.the-variants.{Moved, Nothing}
+use Rattle.streams.specs.declared.calls.Call.the-variants.{Moved, Nothing}
 use Rattle.streams.specs.Calls.{callOf, reasonOf}
-use Rattle.streams.proofs.call_of.Statement.{statement}
-use Rattle.streams.proofs.call_of.Tie as tie
+use Rattle.streams.proofs.calls.call_of.Statement.{statement}
+use Rattle.streams.proofs.calls.call_of.Tie as tie
 
 above : (z : ℤ) → ltZ (pos 0) z ≡ true → T (nonNeg z)
 above (pos n) e = tt
