@@ -118,7 +118,7 @@ pub fn root_of(word: u64) -> Root
             }
             rooted(packed_root(digits + FIELD, field + 51))
         }
-        _ => refused(),
+        2047.. => refused(),
     }
 }
 

@@ -30,7 +30,7 @@ pub fn kind_of(word: u64) -> Kind
     match field {
         0 => Kind::ZeroOrSubnormal,
         1..=2046 => Kind::Normal,
-        _ => Kind::NotFinite,
+        2047.. => Kind::NotFinite,
     }
 }
 
