@@ -15,9 +15,8 @@ use Rattle.series.specs.declared.figures.FirstSums.{FirstSums}
 use Rattle.series.specs.declared.figures.Seconds.{Seconds}
 use Rattle.search_points.specs.declared.figures.Initial.{Initial}
 use Rattle.search_points.specs.declared.figures.Sort.the-variants.{Short, Past, Exact, Unreadable}
-use Rattle.search_points.specs.declared.trial.Trial.{Trial}
-use Rattle.search_points.specs.Residual.{timeErrorOf}
-use Rattle.search_points.specs.Trial.{anomalyAt, sortOf, unevaluated, evaluatedAt, trialAt}
+use Rattle.search_points.specs.declared.figures.Trial.{Trial}
+use Rattle.search_points.specs.Trial.{anomalyAt, sortOf, unevaluated, trialOf, evaluatedAt, trialAt}
 
 -- ---- A word with its sign bit set is the negative of the word without it.
 neg-odd : (d : ℕ) (q k l : ℕ) → odd d true q k l ≡ neg (odd d false q k l)
@@ -135,9 +134,9 @@ module _ (tau : Seconds) (x : Float) where
 module _ (i : Initial) (tau : Seconds) (psi : Anomaly) where
   pub finite-point : (f : FirstSums) {r : Trial} → isFinite (firstL (i .alpha) psi) ≡ true
       → f ≡ record { c0 = coefficientsOf (i .alpha) psi .c0; sums = sumsOf psi (coefficientsOf (i .alpha) psi) }
-      → r ≡ record { sort = sortOf tau (timeErrorOf i tau (f .sums)); c0 = f .c0; s1 = f .sums .s1; s2 = f .sums .s2 } → r ≡ evaluatedAt i tau psi
+      → r ≡ trialOf i tau (f .c0) (f .sums) → r ≡ evaluatedAt i tau psi
   unfolding evaluatedAt
-  finite-point f h e g = simp h (g ∙ ap (λ (x : FirstSums). record { sort = sortOf tau (timeErrorOf i tau (x .sums)); c0 = x .c0; s1 = x .sums .s1; s2 = x .sums .s2 }) e)
+  finite-point f h e g = simp h (g ∙ ap (λ (x : FirstSums). trialOf i tau (x .c0) (x .sums)) e)
 
   pub no-point : {r : Trial} → isFinite (firstL (i .alpha) psi) ≡ false → r ≡ unevaluated Unreadable → r ≡ evaluatedAt i tau psi
   unfolding evaluatedAt

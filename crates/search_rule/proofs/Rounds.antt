@@ -14,16 +14,14 @@ use borrow.Author.Tests.{ltb-true, ltb-false, le-ltb}
 use Rattle.bits.specs.Choice.{pick}
 use Rattle.search_points.specs.declared.figures.Sort.{Sort}
 use Rattle.search_points.specs.declared.figures.Sort.the-variants.{Short, Past, Exact, Unreadable}
+use Rattle.search_rule.specs.declared.pair.End.{End}
 use Rattle.search_rule.specs.declared.pair.Pair.{Pair}
-use Rattle.search_rule.specs.History.{Point, Trials, Proposal, End, between, exact, unreadable, allShort, History, tries, ends, pointsIn, endOf, onward, movedBy, moved, attempt, isWide, halfway, halving, isInside, round, inward, history, outward, outwardBy, goingOn}
-use Rattle.search_rule.specs.Demand.{IsShort, historyIn}
+use Rattle.search_rule.specs.Rule.{Point, Trials, Proposal, Ending, between, exact, unreadable, allShort, History, tries, ends, pointsIn, endingOf, onward, endAt, movedBy, moved, attempt, gap, isWide, halfway, halving, isInside, round, inward, history, outward, outwardBy, goingOn}
+use Rattle.search_rule.specs.RulePromise.{IsShort, historyIn}
 use Rattle.search_rule.proofs.Counts.{points, onward-points, outward-points, inward-points}
 
-abbrev pub gap : Pair → ℕ
-gap s = s .past - s .short
-
 -- An end at which K holds and whose pair, where it is one, is at most g wide.
-abbrev pub Within : (End → Type 0) → ℕ → End → Type 0
+abbrev pub Within : (Ending → Type 0) → ℕ → Ending → Type 0
 Within K g (between s) = K (between s) × (gap s ≤ g)
 Within K g (exact p) = K (exact p)
 Within K g unreadable = K unreadable
@@ -38,24 +36,24 @@ both : (a b : Bool) → (a && b) ≡ true → (a ≡ true) × (b ≡ true)
 both true b e = (refl, e)
 both false b e = (e, cc)
 
-pub inside-is : (s : Pair) (p : ℕ) → isInside s p ≡ true → (s .short < p) × (p < s .past)
+pub inside-is : (s : Pair) (p : ℕ) → isInside s p ≡ true → (s .short .place < p) × (p < s .past .place)
 inside-is s p e =
-    let t = both (ltb (s .short) p) (ltb p (s .past)) e in
-    (ltb-true (s .short) p (t .0), ltb-true p (s .past) (t .1))
+    let t = both (ltb (s .short .place) p) (ltb p (s .past .place)) e in
+    (ltb-true (s .short .place) p (t .0), ltb-true p (s .past .place) (t .1))
 
 -- ---- What every point that is tried between the two ends keeps, a round and the rounds keep; and the gap shrinks.
-module _ (K : End → Type 0) where
-  pub onward-within : (g g' : ℕ) (tried : List Point) (h : History) (f : List Point → Pair → History) → Within K g (endOf h)
-      → ((l : List Point) (s : Pair) → K (between s) → gap s ≤ g → Within K g' (endOf (f l s))) → Within K g' (endOf (onward tried h f))
-  unfolding endOf onward
+module _ (K : Ending → Type 0) where
+  pub onward-within : (g g' : ℕ) (tried : List Point) (h : History) (f : List Point → Pair → History) → Within K g (endingOf h)
+      → ((l : List Point) (s : Pair) → K (between s) → gap s ≤ g → Within K g' (endingOf (f l s))) → Within K g' (endingOf (onward tried h f))
+  unfolding endingOf onward
   onward-within g g' tried (tries p h) f x next = onward-within g g' (tried ++ (p ∷ [])) h f x next
   onward-within g g' tried (ends (between s)) f x next = next tried s (x .0) (x .1)
   onward-within g g' tried (ends (exact p)) f x next = x
   onward-within g g' tried (ends unreadable) f x next = x
   onward-within g g' tried (ends allShort) f x next = x
 
-  module _ (ev : Trials) (keeps : (s : Pair) (p : ℕ) → K (between s) → s .short < p → p < s .past → K (moved s p (ev p))) where
-    moved-within : (g : ℕ) (s : Pair) (p : ℕ) → K (between s) → s .short < p → p < s .past → p - s .short ≤ g → s .past - p ≤ g → Within K g (moved s p (ev p))
+  module _ (ev : Trials) (keeps : (s : Pair) (p : ℕ) → K (between s) → s .short .place < p → p < s .past .place → K (moved s p (ev p))) where
+    moved-within : (g : ℕ) (s : Pair) (p : ℕ) → K (between s) → s .short .place < p → p < s .past .place → p - s .short .place ≤ g → s .past .place - p ≤ g → Within K g (moved s p (ev p))
     moved-within g s p k lo hi l r = go (ev p .sort) (keeps s p k lo hi)
       where
         go : (v : Sort) → K (movedBy v s p (ev p)) → Within K g (movedBy v s p (ev p))
@@ -64,10 +62,10 @@ module _ (K : End → Type 0) where
         go Exact y = y
         go Unreadable y = y
 
-    halving-within : (g : ℕ) (s : Pair) → 1 ≤ g → K (between s) → gap s ≤ 2 * g → Within K g (endOf (halving ev s))
-    unfolding endOf halving
+    halving-within : (g : ℕ) (s : Pair) → 1 ≤ g → K (between s) → gap s ≤ 2 * g → Within K g (endingOf (halving ev s))
+    unfolding endingOf halving
     halving-within g s g1 k w =
-        pick-holds (λ (h : History). Within K g (endOf h)) (isWide s)
+        pick-holds (λ (h : History). Within K g (endingOf h)) (isWide s)
         (λ e.
         let o : 1 < gap s = ltb-true 1 (gap s) e in
         moved-within g s (halfway s) k (omega arith) (omega arith) (omega arith) (omega arith))
@@ -76,11 +74,11 @@ module _ (K : End → Type 0) where
         (k, omega arith))
 
     module _ (pr : Proposal) where
-      pub round-within : (g k : ℕ) (tried : List Point) (s : Pair) → 1 ≤ g → K (between s) → gap s ≤ 2 * g → Within K g (endOf (round ev pr k tried s))
-      unfolding endOf round
+      pub round-within : (g k : ℕ) (tried : List Point) (s : Pair) → 1 ≤ g → K (between s) → gap s ≤ 2 * g → Within K g (endingOf (round ev pr k tried s))
+      unfolding endingOf round
       round-within g n tried s g1 k w =
           let p = pr n tried s in
-          pick-holds (λ (h : History). Within K g (endOf h)) (isInside s p)
+          pick-holds (λ (h : History). Within K g (endingOf h)) (isInside s p)
           (λ e.
           let i = inside-is s p e in
           onward-within (2 * g) g tried (attempt ev s p) (λ _. halving ev)
@@ -89,11 +87,11 @@ module _ (K : End → Type 0) where
           (λ e. halving-within g s g1 k w)
 
       -- So many rounds close a pair of 2 ^ left places, and bring one that is w wider to 1 + w.
-      pub inward-within : (left k : ℕ) (tried : List Point) (s : Pair) (w : ℕ) → K (between s) → gap s ≤ 2 ^ left + w → Within K (1 + w) (endOf (inward ev pr left k tried s))
-      unfolding endOf inward
+      pub inward-within : (left k : ℕ) (tried : List Point) (s : Pair) (w : ℕ) → K (between s) → gap s ≤ 2 ^ left + w → Within K (1 + w) (endingOf (inward ev pr left k tried s))
+      unfolding endingOf inward
       inward-within zero n tried s w k l = (k, l)
       inward-within (suc left) n tried s w k l =
-          pick-holds (λ (h : History). Within K (1 + w) (endOf h)) (isWide s)
+          pick-holds (λ (h : History). Within K (1 + w) (endingOf h)) (isWide s)
           (λ e.
           onward-within (2 ^ left + w) (1 + w) tried (round ev pr n tried s) (inward ev pr left (n + 1))
           (round-within (2 ^ left + w) n tried s (omega (arith, pow-pos left)) k (omega (arith, pow-suc 2 left)))
@@ -105,13 +103,13 @@ module _ (K : End → Type 0) where
 -- ---- So many rounds are enough.
 
 -- No more than the width is asked of an end.
-abbrev Any : End → Type 0
+abbrev Any : Ending → Type 0
 Any e = Unit {0}
 
 -- Two ways on that agree on every pair of at most g places give the same history after a part that ends with no wider pair.
-onward-same : (g : ℕ) (tried : List Point) (h : History) (f f' : List Point → Pair → History) → Within Any g (endOf h)
+onward-same : (g : ℕ) (tried : List Point) (h : History) (f f' : List Point → Pair → History) → Within Any g (endingOf h)
     → ((l : List Point) (s : Pair) → gap s ≤ g → f l s ≡ f' l s) → onward tried h f ≡ onward tried h f'
-unfolding endOf onward
+unfolding endingOf onward
 onward-same g tried (tries p h) f f' x e = ap (tries p) (onward-same g (tried ++ (p ∷ [])) h f f' x e)
 onward-same g tried (ends (between s)) f f' x e = e tried s (x .1)
 onward-same g tried (ends (exact p)) f f' x e = refl
@@ -146,27 +144,27 @@ is-short Unreadable = inr (λ x. x)
 
 module _ (ev : Trials) where
   module _ (g : ℕ) where
-    step-gap : (v : Sort) (short : ℕ) (error : Float) (place : ℕ) (next : Float → History) → ((r : Float) → v ≡ Past r → place - short ≤ g)
-        → ((r : Float) → Within Any g (endOf (next r))) → Within Any g (endOf (goingOn (outwardBy v short error place (ev place)) next))
-    unfolding endOf
-    step-gap (Short r) short error place next w h = h r
-    step-gap (Past r) short error place next w h = (tt, w r refl)
-    step-gap Exact short error place next w h = tt
-    step-gap Unreadable short error place next w h = tt
+    step-gap : (v : Sort) (short : End) (place : ℕ) (next : End → History) → ((r : Float) → v ≡ Past r → place - short .place ≤ g)
+        → ((r : Float) → Within Any g (endingOf (next (endAt place r)))) → Within Any g (endingOf (goingOn (outwardBy v short place (ev place)) next))
+    unfolding endingOf
+    step-gap (Short r) short place next w h = h r
+    step-gap (Past r) short place next w h = (tt, w r refl)
+    step-gap Exact short place next w h = tt
+    step-gap Unreadable short place next w h = tt
 
     -- The pair that the outward part ends with: two outward points, 2 ^ 52 places apart, or the first of them and the short place before it.
-    outward-gap : (n short : ℕ) (error : Float) (place : ℕ) → 2 ^ 52 ≤ g → place - short ≤ g → Within Any g (endOf (outward ev n short error place))
-    unfolding endOf outward
-    outward-gap zero short error place l w = tt
-    outward-gap (suc n) short error place l w =
-        step-gap (ev place .sort) short error place (λ r. outward ev n place r (place + 2 ^ 52)) (λ _ _. w) (λ r. outward-gap n place r (place + 2 ^ 52) l (omega arith))
+    outward-gap : (n : ℕ) (short : End) (place : ℕ) → 2 ^ 52 ≤ g → place - short .place ≤ g → Within Any g (endingOf (outward ev n short place))
+    unfolding endingOf outward
+    outward-gap zero short place l w = tt
+    outward-gap (suc n) short place l w =
+        step-gap (ev place .sort) short place (λ next. outward ev n next (place + 2 ^ 52)) (λ _ _. w) (λ r. outward-gap n (endAt place r) (place + 2 ^ 52) l (omega arith))
 
   -- An outward point that isn't short is the last one.
-  one-point : (n short : ℕ) (error : Float) (place : ℕ) → (IsShort (ev place .sort) → ⊥) → points (outward ev (suc n) short error place) ≤ 1
+  one-point : (n : ℕ) (short : End) (place : ℕ) → (IsShort (ev place .sort) → ⊥) → points (outward ev (suc n) short place) ≤ 1
   unfolding outward pointsIn
-  one-point n short error place h = omega (arith, go (ev place .sort) h)
+  one-point n short place h = omega (arith, go (ev place .sort) h)
     where
-      go : (v : Sort) → (IsShort v → ⊥) → points (goingOn (outwardBy v short error place (ev place)) (λ r. outward ev n place r (place + 2 ^ 52))) ≤ 0
+      go : (v : Sort) → (IsShort v → ⊥) → points (goingOn (outwardBy v short place (ev place)) (λ next. outward ev n next (place + 2 ^ 52))) ≤ 0
       go (Short r) x = absurd (x tt)
       go (Past r) x = omega arith
       go Exact x = omega arith
@@ -174,18 +172,18 @@ module _ (ev : Trials) where
 
   module _ (first : ℕ) (error : Float) where
     -- From k = 0 the gap is at most 2 ^ 63, from k >= 1 at most 2 ^ 52.
-    pub gap-63 : first < 2 ^ 63 → Within Any (2 ^ 63) (endOf (outward ev 41 0 error first))
-    gap-63 h = outward-gap (2 ^ 63) 41 0 error first (omega arith) (omega arith)
+    pub gap-63 : first < 2 ^ 63 → Within Any (2 ^ 63) (endingOf (outward ev 41 (endAt 0 error) first))
+    gap-63 h = outward-gap (2 ^ 63) 41 (endAt 0 error) first (omega arith) (omega arith)
 
-    pub gap-52 : IsShort (ev first .sort) → Within Any (2 ^ 52) (endOf (outward ev 41 0 error first))
-    unfolding endOf outward
+    pub gap-52 : IsShort (ev first .sort) → Within Any (2 ^ 52) (endingOf (outward ev 41 (endAt 0 error) first))
+    unfolding endingOf outward
     gap-52 h =
-        step-gap (2 ^ 52) (ev first .sort) 0 error first (λ r. outward ev 40 first r (first + 2 ^ 52)) (λ r e. absurd (subst IsShort e h))
-        (λ r. outward-gap (2 ^ 52) 40 first r (first + 2 ^ 52) (omega arith) (omega arith))
+        step-gap (2 ^ 52) (ev first .sort) (endAt 0 error) first (λ next. outward ev 40 next (first + 2 ^ 52)) (λ r e. absurd (subst IsShort e h))
+        (λ r. outward-gap (2 ^ 52) 40 (endAt first r) (first + 2 ^ 52) (omega arith) (omega arith))
 
     module _ (pr : Proposal) where
-      historyIn-same : (g more : ℕ) → Within Any (2 ^ g) (endOf (outward ev 41 0 error first)) → historyIn (g + more) ev pr first error ≡ historyIn g ev pr first error
-      historyIn-same g more h = onward-same (2 ^ g) [] (outward ev 41 0 error first) (inward ev pr (g + more) 0) (inward ev pr g 0) h (rounds-enough ev pr g more 0)
+      historyIn-same : (g more : ℕ) → Within Any (2 ^ g) (endingOf (outward ev 41 (endAt 0 error) first)) → historyIn (g + more) ev pr first error ≡ historyIn g ev pr first error
+      historyIn-same g more h = onward-same (2 ^ g) [] (outward ev 41 (endAt 0 error) first) (inward ev pr (g + more) 0) (inward ev pr g 0) h (rounds-enough ev pr g more 0)
 
       -- "At most 63 rounds" is no rule of its own: with any more of them the history is the same.
       pub rounds-63 : first < 2 ^ 63 → (more : ℕ) → historyIn (63 + more) ev pr first error ≡ history ev pr first error
@@ -201,11 +199,11 @@ module _ (ev : Trials) where
       pub points-145 : IsShort (ev first .sort) → points (history ev pr first error) ≤ 145
       points-145 h =
           rw (rounds-52 h)
-          (omega (arith, onward-points 104 [] (outward ev 41 0 error first) (inward ev pr 52 0) (inward-points ev pr 52 0), outward-points ev 41 0 error first))
+          (omega (arith, onward-points 104 [] (outward ev 41 (endAt 0 error) first) (inward ev pr 52 0) (inward-points ev pr 52 0), outward-points ev 41 (endAt 0 error) first))
 
       pub points-127 : (IsShort (ev first .sort) → ⊥) → points (history ev pr first error) ≤ 127
       unfolding history
-      points-127 h = omega (arith, onward-points 126 [] (outward ev 41 0 error first) (inward ev pr 63 0) (inward-points ev pr 63 0), one-point 40 0 error first h)
+      points-127 h = omega (arith, onward-points 126 [] (outward ev 41 (endAt 0 error) first) (inward ev pr 63 0) (inward-points ev pr 63 0), one-point 40 (endAt 0 error) first h)
 
       pub points-sharp : points (history ev pr first error) ≤ 145
       points-sharp = ⊎-elim points-145 (λ h. omega (arith, points-127 h)) (is-short (ev first .sort))

@@ -7,24 +7,24 @@ use mathlib.Core.List.{List, [], _∷_, _++_}
 use mathlib.Core.Logic.{⊎-elim}
 use native.Mathlib.Omega.{arith}
 use lib.Dec.{eqb}
-use lib.Ieee.{Float}
 use borrow.Author.Tests.{ltb-true, le-ltb, eqb-true, eqb-false}
 use types.Run.{OneOf}
 use denote.Enum.Declared.{tagOf}
 use Rattle.bits.specs.Choice.{pick}
 use Rattle.search_rule.proofs.pair.Next.{the-type}
+use Rattle.search_rule.specs.declared.pair.End.{End}
 use Rattle.search_rule.specs.declared.pair.Pair.{Pair}
 use Rattle.search_rule.specs.declared.pair.Next.{Next}
 use Rattle.search_rule.specs.declared.pair.Next.the-variants as next
 use Rattle.search_rule.specs.declared.pair.Step.the-variants as step
-use Rattle.search_rule.specs.History.{Point, Trials, Proposal, between, exact, unreadable, allShort, History, tries, ends, onward, Outward, on, stop, outwardStep, goingOn, outward, attempt, isWide, halfway, halving, isInside, roundFrom, round, inward, counted, stepped}
+use Rattle.search_rule.specs.Rule.{Point, Trials, pointAt, Proposal, between, exact, unreadable, allShort, History, tries, ends, onward, Outward, on, stop, outwardStep, goingOn, outward, attempt, gap, isWide, halfway, halving, isInside, roundFrom, round, inward, counted, stepOf}
 use Rattle.search_rule.proofs.Counts.{points, used, used-is}
 
 -- A place that is proposed lies strictly between, and 0 is none.
 pub record Fits (s : Pair) (p : ℕ) : Type 0 where
   pub between-ends : eqb p 0 ≡ false → isInside s p ≡ true
 
--- After a part as the code keeps it: the next part, where it ended with a pair.
+-- After a part as the code keeps it: the next part, where it nextOf with a pair.
 abbrev pub after : Next → (Pair → History) → Next
 after (next.Between s n) f = counted n (f s)
 after (next.Exact p n) f = next.Exact p n
@@ -46,18 +46,18 @@ pub followed : {x : Next} (n : ℕ) (tried : List Point) (h : History) (f : List
     → x ≡ counted n h → after x g ≡ counted n (onward tried h f)
 followed n tried h f g e p = ap (λ (y : Next). after y g) p ∙ sym (counted-onward n tried h f g e)
 
--- A pair that a part ended with has that part's points more.
+-- A pair that a part nextOf with has that part's points more.
 pub between-used : {x : Next} (q : Pair) {m : ℕ} (n : ℕ) (h : History) → x ≡ counted n h → x ≡ next.Between q m → m ≡ n + points h
 between-used q n h e g = ap used (sym g ∙ e) ∙ used-is n h
 
 -- An outward step as the code has it: an end, or the next point.
-pub stops : (n : ℕ) (o : Outward) (f : Float → History) {x : Next} → stepped n o ≡ step.Stop x → x ≡ counted n (goingOn o f)
+pub stops : (n : ℕ) (o : Outward) (f : End → History) {x : Next} → stepOf n o ≡ step.Stop x → x ≡ counted n (goingOn o f)
 unfolding counted
 stops n (on r) f e = absurd (let z : _≡_ {A = ℕ} 0 1 = cc in omega arith)
 stops n (stop e) f g = cc
 
-pub goes-on : (n : ℕ) (o : Outward) (f : Float → History) {r : Float} → stepped n o ≡ step.On r → counted n (goingOn o f) ≡ counted n (f r)
-goes-on n (on q) f {r} e = let same : q ≡ r = cc in ap (λ (x : Float). counted n (f x)) same
+pub goes-on : (n : ℕ) (o : Outward) (f : End → History) {short : End} → stepOf n o ≡ step.On short → counted n (goingOn o f) ≡ counted n (f short)
+goes-on n (on e) f {short} g = let same : e ≡ short = cc in ap (λ (x : End). counted n (f x)) same
 goes-on n (stop e) f g = absurd (let z : _≡_ {A = ℕ} 0 1 = cc in omega arith)
 
 -- A place that a `_` arm hands on whole is no pair, so nothing follows it.
@@ -69,23 +69,23 @@ handed-on (next.AllShort n) f h = refl
 
 module _ (ev : Trials) where
   -- ---- outward
-  outward-left : (k short : ℕ) (error : Float) (place : ℕ) → 0 < k
-      → outward ev k short error place ≡ tries (record { place = place; trial = ev place }) (goingOn (outwardStep short error place (ev place)) (λ r. outward ev (k - 1) place r (place + 2 ^ 52)))
+  outward-left : (k : ℕ) (short : End) (place : ℕ) → 0 < k
+      → outward ev k short place ≡ tries (pointAt ev place) (goingOn (outwardStep short place (ev place)) (λ next. outward ev (k - 1) next (place + 2 ^ 52)))
   unfolding outward
-  outward-left zero short error place h = absurd (omega arith)
-  outward-left (suc k) short error place h =
+  outward-left zero short place h = absurd (omega arith)
+  outward-left (suc k) short place h =
       let e : k ≡ suc k - 1 = omega arith in
-      ap (λ (j : ℕ). tries (record { place = place; trial = ev place }) (goingOn (outwardStep short error place (ev place)) (λ r. outward ev j place r (place + 2 ^ 52)))) e
+      ap (λ (j : ℕ). tries (pointAt ev place) (goingOn (outwardStep short place (ev place)) (λ next. outward ev j next (place + 2 ^ 52)))) e
 
-  pub outward-turn : (k n short : ℕ) (error : Float) (place : ℕ) → 0 < k
-      → counted n (outward ev k short error place) ≡ counted (n + 1) (goingOn (outwardStep short error place (ev place)) (λ r. outward ev (k - 1) place r (place + 2 ^ 52)))
+  pub outward-turn : (k n : ℕ) (short : End) (place : ℕ) → 0 < k
+      → counted n (outward ev k short place) ≡ counted (n + 1) (goingOn (outwardStep short place (ev place)) (λ next. outward ev (k - 1) next (place + 2 ^ 52)))
   unfolding counted
-  outward-turn k n short error place h = ap (counted n) (outward-left k short error place h)
+  outward-turn k n short place h = ap (counted n) (outward-left k short place h)
 
-  pub outward-none : (k n short : ℕ) (error : Float) (place : ℕ) → k ≤ 0 → next.AllShort n ≡ counted n (outward ev k short error place)
+  pub outward-none : (k n : ℕ) (short : End) (place : ℕ) → k ≤ 0 → next.AllShort n ≡ counted n (outward ev k short place)
   unfolding outward counted
-  outward-none zero n short error place h = refl
-  outward-none (suc k) n short error place h = absurd (omega arith)
+  outward-none zero n short place h = refl
+  outward-none (suc k) n short place h = absurd (omega arith)
 
   -- ---- inward, where the proposal looks at the pair alone
   module _ (propose : Pair → ℕ) where
@@ -169,7 +169,7 @@ module _ (ev : Trials) where
       unproposed e =
           inward-turn left n s h w
           ∙ ap (λ (p : ℕ). after (counted n (roundFrom ev [] s p)) (rest (left - 1))) e
-          ∙ simp (le-ltb (s .short) 0 (omega arith), w)
+          ∙ simp (le-ltb (s .short .place) 0 (omega arith), w)
 
       -- A proposal strictly between is tried, and then the halving place.
       proposing-turn : isInside s (propose s) ≡ true → counted n (rest left s) ≡ after (counted n (attempt ev s (propose s))) (stage false left)
@@ -200,7 +200,7 @@ pub place-above : (s : Pair) (p : ℕ) → isWide s ≡ true → 0 < pick (eqb p
 place-above s p w = by-test (eqb p 0) refl
   where
     by-test : (b : Bool) → eqb p 0 ≡ b → 0 < pick b (halfway s) p
-    by-test true e = omega (arith, ltb-true 1 (s .past - s .short) w)
+    by-test true e = omega (arith, ltb-true 1 (gap s) w)
     by-test false e = let z = eqb-false p 0 e in omega (arith, z)
 
 -- Only a turn that may propose offers a place.

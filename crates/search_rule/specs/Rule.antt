@@ -1,6 +1,6 @@
 -- The rule's own history (document 01, "The search"): every trial point in order, and how the search ends. It is written over any trial function, from a place
 -- to what is found there, and any proposal, which may look at the round's number, at all points tried so far and at the pair. The search of document 01 is one
--- instance (Search.antt); its count of points is the history's length and nothing else.
+-- instance (Search.antt of `search`); its count of points is the length of the history's list of points and nothing else.
 use Prim.Native.Nat.{ℕ, zero, suc, _+_, _-_, _/_, _^_}
 use mathlib.Core.Bool.{Bool, true, false, _&&_}
 use mathlib.Core.List.{List, [], _∷_, _++_}
@@ -9,7 +9,8 @@ use lib.Ieee.{Float}
 use Rattle.bits.specs.Choice.{pick}
 use Rattle.search_points.specs.declared.figures.Sort.{Sort}
 use Rattle.search_points.specs.declared.figures.Sort.the-variants.{Short, Past, Exact, Unreadable}
-use Rattle.search_points.specs.declared.trial.Trial.{Trial}
+use Rattle.search_points.specs.declared.figures.Trial.{Trial}
+use Rattle.search_rule.specs.declared.pair.End.{End}
 use Rattle.search_rule.specs.declared.pair.Pair.{Pair}
 use Rattle.search_rule.specs.declared.pair.Next.{Next}
 use Rattle.search_rule.specs.declared.pair.Next.the-variants as next
@@ -21,32 +22,35 @@ pub record Point : Type 0 where
   pub place : ℕ
   pub trial : Trial
 
--- A trial function; and a proposal: of the round's number, the points tried so far, the first first, and the pair.
+-- A trial function, and its point at a place; and a proposal: of the round's number, the points tried so far, the first first, and the pair.
 abbrev pub Trials : Type 0
 Trials = ℕ → Trial
+
+abbrev pub pointAt : Trials → ℕ → Point
+pointAt ev place = record { place = place; trial = ev place }
 
 abbrev pub Proposal : Type 0
 Proposal = (round : ℕ) (tried : List Point) → Pair → ℕ
 
 -- How a search, or a part of one, ends: with a pair, at an exact place, at an unreadable point, or with all outward points short.
-pub data End : Type 0 where
-  between : Pair → End
-  exact : ℕ → End
-  unreadable : End
-  allShort : End
+pub data Ending : Type 0 where
+  between : Pair → Ending
+  exact : ℕ → Ending
+  unreadable : Ending
+  allShort : Ending
 
--- Each point tried, in order, and then the end.
+-- Each point tried, in order, and then how it ends.
 pub data History : Type 0 where
   tries : Point → History → History
-  ends : End → History
+  ends : Ending → History
 
 unfoldable pub pointsIn : History → List Point
 pointsIn (tries p h) = p ∷ pointsIn h
 pointsIn (ends e) = []
 
-unfoldable pub endOf : History → End
-endOf (tries p h) = endOf h
-endOf (ends e) = e
+unfoldable pub endingOf : History → Ending
+endingOf (tries p h) = endingOf h
+endingOf (ends e) = e
 
 -- After a part that ended with a pair, the next part, which knows all points tried before it.
 unfoldable pub onward : List Point → History → (List Point → Pair → History) → History
@@ -56,69 +60,65 @@ onward tried (ends (exact p)) next = ends (exact p)
 onward tried (ends unreadable) next = ends unreadable
 onward tried (ends allShort) next = ends allShort
 
--- A pair whose last tried point gave t.
-abbrev pub pairOf : (short : ℕ) (error : Float) (past : ℕ) (error' : Float) (last : Bool) → Trial → Pair
-pairOf short error past error' last t =
-    record {
-      short = short;
-      «short_error» = error;
-      past = past;
-      «past_error» = error';
-      «last_is_past» = last;
-      c0 = t .c0;
-      s1 = t .s1;
-      s2 = t .s2;
-    }
+-- An end of a pair; and a pair whose last tried point gave t.
+abbrev pub endAt : (place : ℕ) (error : Float) → End
+endAt place error = record { place = place; error = error }
+
+abbrev pub pairOf : (short past : End) (last : Bool) → Trial → Pair
+pairOf short past last t = record { short = short; past = past; «last_is_past» = last; terms = t .terms }
 
 -- ---- "Outward: places of |H| plus k·2^52, k = 0 to 40, tried in order until one isn't short. Exact ends the search. Past gives a pair: the previous
 -- point, or place 0 when k = 0, and this one."
 
--- What the point t at a place gives, after a short place with its error: the next point, or an end.
+-- What the point t at a place gives, after a short end: on to the next point from a short one, or a stop.
 pub data Outward : Type 0 where
-  on : Float → Outward
-  stop : End → Outward
+  on : End → Outward
+  stop : Ending → Outward
 
-abbrev pub outwardBy : Sort → (short : ℕ) (error : Float) (place : ℕ) → Trial → Outward
-outwardBy (Short r) short error place t = on r
-outwardBy (Past r) short error place t = stop (between (pairOf short error place r true t))
-outwardBy Exact short error place t = stop (exact place)
-outwardBy Unreadable short error place t = stop unreadable
+abbrev pub outwardBy : Sort → (short : End) (place : ℕ) → Trial → Outward
+outwardBy (Short r) short place t = on (endAt place r)
+outwardBy (Past r) short place t = stop (between (pairOf short (endAt place r) true t))
+outwardBy Exact short place t = stop (exact place)
+outwardBy Unreadable short place t = stop unreadable
 
-abbrev pub outwardStep : (short : ℕ) (error : Float) (place : ℕ) → Trial → Outward
-outwardStep short error place t = outwardBy (t .sort) short error place t
+abbrev pub outwardStep : (short : End) (place : ℕ) → Trial → Outward
+outwardStep short place t = outwardBy (t .sort) short place t
 
-abbrev pub goingOn : Outward → (Float → History) → History
-goingOn (on r) next = next r
+abbrev pub goingOn : Outward → (End → History) → History
+goingOn (on short) next = next short
 goingOn (stop e) next = ends e
 
--- With k points left, after a short place with its error.
-unfoldable pub outward : Trials → (k : ℕ) (short : ℕ) (error : Float) (place : ℕ) → History
-outward ev zero short error place = ends allShort
-outward ev (suc k) short error place =
-    tries (record { place = place; trial = ev place })
-    (goingOn (outwardStep short error place (ev place)) (λ r. outward ev k place r (place + 2 ^ 52)))
+-- With k points left, after a short end.
+unfoldable pub outward : Trials → (k : ℕ) (short : End) (place : ℕ) → History
+outward ev zero short place = ends allShort
+outward ev (suc k) short place =
+    tries (pointAt ev place) (goingOn (outwardStep short place (ev place)) (λ next. outward ev k next (place + 2 ^ 52)))
 
 -- ---- "Inward, in rounds while the two places differ by more than 1"
 
 -- "A tried point replaces the end of its own sort; exact ends the search."
-abbrev pub movedBy : Sort → Pair → ℕ → Trial → End
-movedBy (Short r) s place t = between (pairOf place r (s .past) (s .«past_error») false t)
-movedBy (Past r) s place t = between (pairOf (s .short) (s .«short_error») place r true t)
+abbrev pub movedBy : Sort → Pair → ℕ → Trial → Ending
+movedBy (Short r) s place t = between (pairOf (endAt place r) (s .past) false t)
+movedBy (Past r) s place t = between (pairOf (s .short) (endAt place r) true t)
 movedBy Exact s place t = exact place
 movedBy Unreadable s place t = unreadable
 
-abbrev pub moved : Pair → ℕ → Trial → End
+abbrev pub moved : Pair → ℕ → Trial → Ending
 moved s place t = movedBy (t .sort) s place t
 
 abbrev pub attempt : Trials → Pair → ℕ → History
-attempt ev s place = tries (record { place = place; trial = ev place }) (ends (moved s place (ev place)))
+attempt ev s place = tries (pointAt ev place) (ends (moved s place (ev place)))
+
+-- By how much the two places differ; and whether by more than 1.
+abbrev pub gap : Pair → ℕ
+gap s = s .past .place - s .short .place
 
 abbrev pub isWide : Pair → Bool
-isWide s = ltb 1 (s .past - s .short)
+isWide s = ltb 1 (gap s)
 
 -- "the halving place, low plus half the difference rounded down"
 abbrev pub halfway : Pair → ℕ
-halfway s = s .short + (s .past - s .short) / 2
+halfway s = s .short .place + gap s / 2
 
 -- ".. (if they still differ by more than 1) the halving place"
 unfoldable pub halving : Trials → Pair → History
@@ -126,7 +126,7 @@ halving ev s = pick (isWide s) (attempt ev s (halfway s)) (ends (between s))
 
 -- "lies strictly between the two places"
 abbrev pub isInside : Pair → ℕ → Bool
-isInside s place = ltb (s .short) place && ltb place (s .past)
+isInside s place = ltb (s .short .place) place && ltb place (s .past .place)
 
 -- "first a proposal, then .. the halving place"; a proposal that does not lie strictly between is none.
 abbrev pub roundFrom : Trials → List Point → Pair → (proposed : ℕ) → History
@@ -142,19 +142,19 @@ inward ev pr (suc left) k tried s = pick (isWide s) (onward tried (round ev pr k
 
 -- The whole history, from the place of |H| and the time error of place 0.
 unfoldable pub history : Trials → Proposal → (first : ℕ) (error : Float) → History
-history ev pr first error = onward [] (outward ev 41 0 error first) (inward ev pr 63 0)
+history ev pr first error = onward [] (outward ev 41 (endAt 0 error) first) (inward ev pr 63 0)
 
 -- ---- The history as the code keeps it: how it ends, and how many points there were.
-abbrev pub ended : ℕ → End → Next
-ended n (between s) = next.Between s n
-ended n (exact p) = next.Exact p n
-ended n unreadable = next.Unreadable n
-ended n allShort = next.AllShort n
+abbrev pub nextOf : ℕ → Ending → Next
+nextOf n (between s) = next.Between s n
+nextOf n (exact p) = next.Exact p n
+nextOf n unreadable = next.Unreadable n
+nextOf n allShort = next.AllShort n
 
 unfoldable pub counted : ℕ → History → Next
 counted n (tries p h) = counted (n + 1) h
-counted n (ends e) = ended n e
+counted n (ends e) = nextOf n e
 
-abbrev pub stepped : ℕ → Outward → Step
-stepped n (on r) = step.On r
-stepped n (stop e) = step.Stop (ended n e)
+abbrev pub stepOf : ℕ → Outward → Step
+stepOf n (on short) = step.On short
+stepOf n (stop e) = step.Stop (nextOf n e)
