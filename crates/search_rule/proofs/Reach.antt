@@ -15,7 +15,7 @@ use Rattle.search_rule.specs.declared.pair.End.{End}
 use Rattle.search_rule.specs.declared.pair.Pair.{Pair}
 use Rattle.search_rule.specs.Rule.{Trials, Proposal, Ending, between, exact, unreadable, allShort, History, endingOf, endAt, outwardBy, goingOn, outward, movedBy, moved, inward, history}
 use Rattle.search_rule.specs.RulePromise.{IsShort, outPoint, Sorts, FirstNotShort, ReadableUpTo, IsFound, Finds}
-use Rattle.search_rule.proofs.Rounds.{Within, onward-within, inward-within}
+use Rattle.search_rule.proofs.Rounds.{NoWider, onward-no-wider, inward-no-wider}
 
 -- A pair that holds: its ends are what it says, in order, and not beyond the first outward point that isn't short.
 pub record Held (ev : Trials) (top : ℕ) (s : Pair) : Type 0 where
@@ -94,7 +94,7 @@ module _ (ev : Trials) where
 -- ---- The whole search.
 module _ (ev : Trials) (pr : Proposal) (first : ℕ) (error : Float) (sorts : Sorts ev error) where
   -- A pair that holds is narrower than 2 ^ 63 places, since no place from there on is readable.
-  narrow : (top : ℕ) (e : Ending) → Reached ev top e → Within (Reached ev top) (2 ^ 63) e
+  narrow : (top : ℕ) (e : Ending) → Reached ev top e → NoWider (Reached ev top) (2 ^ 63) e
   narrow top (between s) x =
       elim (decLe (2 ^ 63) (s .past .place)) [
         | yes l ↦ absurd (let z : _≡_ {A = ℕ} 0 1 = cc (sorts .top-unreadable (s .past .place) l, x .past-is) in omega arith)
@@ -105,16 +105,16 @@ module _ (ev : Trials) (pr : Proposal) (first : ℕ) (error : Float) (sorts : So
   narrow top allShort x = x
 
   -- Where some outward point isn't short, the search ends with neighbours, at an exact point or at an unreadable one, none of them beyond that point.
-  pub history-reached : (k : ℕ) → FirstNotShort ev first 41 k → Within (Reached ev (outPoint first k)) 1 (endingOf (history ev pr first error))
+  pub history-reached : (k : ℕ) → FirstNotShort ev first 41 k → NoWider (Reached ev (outPoint first k)) 1 (endingOf (history ev pr first error))
   unfolding history
   history-reached k f =
       let top = outPoint first k in
-      onward-within (Reached ev top) (2 ^ 63) 1 [] (outward ev 41 (endAt 0 error) first) (inward ev pr 63 0)
+      onward-no-wider (Reached ev top) (2 ^ 63) 1 [] (outward ev 41 (endAt 0 error) first) (inward ev pr 63 0)
       (narrow top (endingOf (outward ev 41 (endAt 0 error) first)) (outward-reached ev k 41 (endAt 0 error) first (sorts .zero-short) (omega arith) f))
-      (λ tried s h w. inward-within (Reached ev top) ev (moved-reached ev top) pr 63 0 tried s 0 h w)
+      (λ tried s h w. inward-no-wider (Reached ev top) ev (moved-reached ev top) pr 63 0 tried s 0 h w)
 
 -- Neighbours and exact points are anomalies; else a point up to that one is unreadable.
-pub found : (ev : Trials) (top : ℕ) (e : Ending) → Within (Reached ev top) 1 e → IsFound ev e ⊎ ((e ≡ unreadable) × (ReadableUpTo ev top → ⊥))
+pub found : (ev : Trials) (top : ℕ) (e : Ending) → NoWider (Reached ev top) 1 e → IsFound ev e ⊎ ((e ≡ unreadable) × (ReadableUpTo ev top → ⊥))
 found ev top (between s) x =
     let h = x .0 in
     let next : s .past .place ≡ s .short .place + 1 = omega (arith, h .order, x .1) in

@@ -45,39 +45,7 @@ impl Pair {
     }
 }
 
-// A tried point replaces the end of its own sort; `points` counts it.
-pub fn moved_by(pair: Pair, place: u64, t: Trial, points: u64) -> Next
-    ensures { λ r. ⌜ r ≡ nextOf points (moved pair place t) ⌝ }
-{
-    let short = pair.short;
-    let past = pair.past;
-    let sort = t.sort;
-    let terms = t.terms;
-    match sort {
-        Sort::Short(error) => Next::Between(
-            Pair {
-                short: End { place, error },
-                past,
-                last_is_past: false,
-                terms,
-            },
-            points,
-        ),
-        Sort::Past(error) => Next::Between(
-            Pair {
-                short,
-                past: End { place, error },
-                last_is_past: true,
-                terms,
-            },
-            points,
-        ),
-        Sort::Exact => Next::Exact(place, points),
-        Sort::Unreadable => Next::Unreadable(points),
-    }
-}
-
-// What an outward point makes of the short end before it; `points` counts it.
+// What a tried point makes of the short end before it: a short one is the next such end, and any other a stop; `points` counts it.
 pub fn step_by(short: End, place: u64, t: Trial, points: u64) -> Step
     ensures { λ r. ⌜ r ≡ stepOf points (outwardStep short place t) ⌝ }
 {
@@ -96,5 +64,26 @@ pub fn step_by(short: End, place: u64, t: Trial, points: u64) -> Step
         )),
         Sort::Exact => Step::Stop(Next::Exact(place, points)),
         Sort::Unreadable => Step::Stop(Next::Unreadable(points)),
+    }
+}
+
+// A tried point replaces the end of its own sort; `points` counts it.
+pub fn moved_by(pair: Pair, place: u64, t: Trial, points: u64) -> Next
+    ensures { λ r. ⌜ r ≡ nextOf points (moved pair place t) ⌝ }
+{
+    let past = pair.past;
+    let terms = t.terms;
+    let step = step_by(pair.short, place, t, points);
+    match step {
+        Step::On(short) => Next::Between(
+            Pair {
+                short,
+                past,
+                last_is_past: false,
+                terms,
+            },
+            points,
+        ),
+        Step::Stop(next) => next,
     }
 }

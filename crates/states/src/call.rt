@@ -58,16 +58,16 @@ fn reached_by(
     initial: Initial,
     state: State,
     tau: Seconds,
-    found: search::figures::Answer,
+    found: search::Finding,
 ) -> Reached
     ensures { λ r. ⌜ r ≡ reachedBy initial state tau found ⌝ }
 {
     match found {
-        search::figures::Answer::Found { psi, points } => {
+        search::Finding::Found { psi, points } => {
             Reached::End(arc_at(initial, tau, psi, state), points)
         }
-        search::figures::Answer::AllShort { points } => Reached::Refused(5, points),
-        search::figures::Answer::Unreadable { points } => Reached::Refused(6, points),
+        search::Finding::AllShort { points } => Reached::Refused(5, points),
+        search::Finding::Unreadable { points } => Reached::Refused(6, points),
     }
 }
 
