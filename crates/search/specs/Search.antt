@@ -12,7 +12,7 @@ use Rattle.search_points.specs.Trial.{anomalyAt, trialAt}
 use Rattle.search_rule.specs.declared.pair.Pair.{Pair}
 use Rattle.search_rule.specs.declared.pair.Next.{Next}
 use Rattle.search_rule.specs.declared.pair.Next.the-variants.{Between, Exact, Unreadable, AllShort}
-use Rattle.search_rule.specs.Rule.{Proposal, History, endAt, outward, inward, history, counted}
+use Rattle.search_rule.specs.Rule.{Proposal, History, outwardPart, inward, history, counted}
 use Rattle.search_proposals.specs.Proposals.{threeProposals}
 use Rattle.search.specs.declared.figures.Finding.{Finding}
 use Rattle.search.specs.declared.figures.Finding.the-variants as finding
@@ -26,7 +26,7 @@ historyAt i tau first = historyBy (threeProposals i tau) i tau first
 
 -- Its parts: outward; and inward from a pair, where nothing of what was tried before matters to document 01's proposals.
 abbrev pub outwardAt : Initial → Seconds → (first : ℕ) → History
-outwardAt i tau first = outward (trialAt i tau) 41 (endAt 0 (neg (tau .0))) first
+outwardAt i tau first = outwardPart (trialAt i tau) first (neg (tau .0))
 
 abbrev pub inwardAt : Initial → Seconds → Pair → History
 inwardAt i tau s = inward (trialAt i tau) (threeProposals i tau) 63 0 [] s

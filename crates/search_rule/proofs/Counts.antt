@@ -11,7 +11,7 @@ use Rattle.search_rule.specs.declared.pair.End.{End}
 use Rattle.search_rule.specs.declared.pair.Pair.{Pair}
 use Rattle.search_rule.specs.declared.pair.Next.{Next}
 use Rattle.search_rule.specs.declared.pair.Next.the-variants as next
-use Rattle.search_rule.specs.Rule.{Point, Trials, Proposal, Ending, between, exact, unreadable, allShort, History, tries, ends, pointsIn, endingOf, Part, onward, endAt, Outward, on, stop, outwardStep, goingOn, outward, attempt, isWide, halfway, halving, isInside, round, inward, history, nextOf, counted}
+use Rattle.search_rule.specs.Rule.{Point, Trials, Proposal, Ending, between, exact, unreadable, allShort, History, tries, ends, pointsIn, endingOf, Part, onward, endAt, Outward, on, stop, outwardStep, goingOn, outward, outwardPart, attempt, isWide, halfway, halving, isInside, round, inward, history, nextOf, counted}
 
 abbrev pub points : History → ℕ
 points h = length (pointsIn h)
@@ -60,11 +60,11 @@ module _ (ev : Trials) where
   on-points (on short) f k h = h short
   on-points (stop e) f k h = omega arith
 
-  pub outward-points : (k : ℕ) (short : End) (place : ℕ) → points (outward ev k short place) ≤ k
+  pub outward-points : (k place : ℕ) (short : End) → points (outward ev k place short) ≤ k
   unfolding pointsIn outward
-  outward-points zero short place = omega arith
-  outward-points (suc k) short place =
-      omega (arith, on-points (outwardStep short place (ev place)) (λ next. outward ev k next (place + 2 ^ 52)) k (λ next. outward-points k next (place + 2 ^ 52)))
+  outward-points zero place short = omega arith
+  outward-points (suc k) place short =
+      omega (arith, on-points (outwardStep short place (ev place)) (outward ev k (place + 2 ^ 52)) k (outward-points k (place + 2 ^ 52)))
 
   module _ (pr : Proposal) where
     pub round-points : (k : ℕ) (tried : List Point) (s : Pair) → points (round ev pr k tried s) ≤ 2
@@ -87,4 +87,4 @@ module _ (ev : Trials) where
     pub history-points : (first : ℕ) (error : Float) → points (history ev pr first error) ≤ 167
     unfolding history
     history-points first error =
-        omega (arith, onward-points 126 [] (outward ev 41 (endAt 0 error) first) (inward ev pr 63 0) (inward-points 63 0), outward-points 41 (endAt 0 error) first)
+        omega (arith, onward-points 126 [] (outwardPart ev first error) (inward ev pr 63 0) (inward-points 63 0), outward-points 41 first (endAt 0 error))

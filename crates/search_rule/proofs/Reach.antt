@@ -13,7 +13,7 @@ use Rattle.search_points.specs.declared.figures.Sort.the-variants.{Short, Past,
 use Rattle.search_points.specs.declared.figures.Trial.{Trial}
 use Rattle.search_rule.specs.declared.pair.End.{End}
 use Rattle.search_rule.specs.declared.pair.Pair.{Pair}
-use Rattle.search_rule.specs.Rule.{Trials, Proposal, Ending, between, exact, unreadable, allShort, History, endingOf, endAt, outwardBy, goingOn, outward, movedBy, moved, inward, history}
+use Rattle.search_rule.specs.Rule.{Trials, Proposal, Ending, between, exact, unreadable, allShort, History, endingOf, endAt, outwardBy, goingOn, outward, outwardPart, movedBy, moved, inward, history}
 use Rattle.search_rule.specs.RulePromise.{IsShort, outPoint, Sorts, FirstNotShort, ReadableUpTo, IsFound, Finds}
 use Rattle.search_rule.proofs.Rounds.{NoWider, onward-no-wider, inward-no-wider}
 
@@ -74,22 +74,22 @@ module _ (ev : Trials) where
       go Exact e = (e, omega arith)
       go Unreadable e = (place, e, omega arith)
 
-  outward-reached : (k n : ℕ) (short : End) (place : ℕ) → ev (short .place) .sort ≡ Short (short .error) → short .place ≤ place → FirstNotShort ev place n k
-      → Reached ev (outPoint place k) (endingOf (outward ev n short place))
+  outward-reached : (k n place : ℕ) (short : End) → ev (short .place) .sort ≡ Short (short .error) → short .place ≤ place → FirstNotShort ev place n k
+      → Reached ev (outPoint place k) (endingOf (outward ev n place short))
   unfolding endingOf outward
-  outward-reached k zero short place hs l f = absurd (omega arith)
-  outward-reached zero (suc n) short place hs l f =
+  outward-reached k zero place short hs l f = absurd (omega arith)
+  outward-reached zero (suc n) place short hs l f =
       let e = outPoint-zero place in
-      rw e (stop-reached short place (λ next. outward ev n next (place + 2 ^ 52)) hs l (rw e at (f .not-short)))
-  outward-reached (suc k) (suc n) short place hs l f =
-      let o = on-short (ev place .sort) short place (ev place) (λ next. outward ev n next (place + 2 ^ 52)) (rw (outPoint-zero place) at (f .shorts 0 (omega arith))) in
+      rw e (stop-reached short place (outward ev n (place + 2 ^ 52)) hs l (rw e at (f .not-short)))
+  outward-reached (suc k) (suc n) place short hs l f =
+      let o = on-short (ev place .sort) short place (ev place) (outward ev n (place + 2 ^ 52)) (rw (outPoint-zero place) at (f .shorts 0 (omega arith))) in
       let rest : FirstNotShort ev (place + 2 ^ 52) n k =
       record {
         among = omega (arith, f .among);
         shorts = λ i li. rw (← outPoint-suc place i) (f .shorts (suc i) (omega arith));
         not-short = rw (outPoint-suc place k) at (f .not-short);
       } in
-      rw (o .2, outPoint-suc place k) (outward-reached k n (endAt place (o .0)) (place + 2 ^ 52) (o .1) (omega arith) rest)
+      rw (o .2, outPoint-suc place k) (outward-reached k n (place + 2 ^ 52) (endAt place (o .0)) (o .1) (omega arith) rest)
 
 -- ---- The whole search.
 module _ (ev : Trials) (pr : Proposal) (first : ℕ) (error : Float) (sorts : Sorts ev error) where
@@ -109,8 +109,8 @@ module _ (ev : Trials) (pr : Proposal) (first : ℕ) (error : Float) (sorts : So
   unfolding history
   history-reached k f =
       let top = outPoint first k in
-      onward-no-wider (Reached ev top) (2 ^ 63) 1 [] (outward ev 41 (endAt 0 error) first) (inward ev pr 63 0)
-      (narrow top (endingOf (outward ev 41 (endAt 0 error) first)) (outward-reached ev k 41 (endAt 0 error) first (sorts .zero-short) (omega arith) f))
+      onward-no-wider (Reached ev top) (2 ^ 63) 1 [] (outwardPart ev first error) (inward ev pr 63 0)
+      (narrow top (endingOf (outwardPart ev first error)) (outward-reached ev k 41 first (endAt 0 error) (sorts .zero-short) (omega arith) f))
       (λ tried s h w. inward-no-wider (Reached ev top) ev (moved-reached ev top) pr 63 0 tried s 0 h w)
 
 -- Neighbours and exact points are anomalies; else a point up to that one is unreadable.

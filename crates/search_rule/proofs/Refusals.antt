@@ -12,7 +12,7 @@ use Rattle.search_points.specs.declared.figures.Sort.the-variants.{Short, Past,
 use Rattle.search_points.specs.declared.figures.Trial.{Trial}
 use Rattle.search_rule.specs.declared.pair.End.{End}
 use Rattle.search_rule.specs.declared.pair.Pair.{Pair}
-use Rattle.search_rule.specs.Rule.{Point, Trials, pointAt, Proposal, Ending, between, exact, unreadable, allShort, History, tries, ends, pointsIn, endingOf, Part, onward, endAt, outwardBy, goingOn, outward, movedBy, attempt, gap, isWide, halfway, halving, isInside, round, inward, history}
+use Rattle.search_rule.specs.Rule.{Point, Trials, pointAt, Proposal, Ending, between, exact, unreadable, allShort, History, tries, ends, pointsIn, endingOf, Part, onward, endAt, outwardBy, goingOn, outward, outwardPart, movedBy, attempt, gap, isWide, halfway, halving, isInside, round, inward, history}
 use Rattle.search_rule.specs.RulePromise.{IsShort, outPoint, ShortBefore, AllOutwardShort, FirstNotShort, EndsSo, SomeUnreadable, LastUnreadable}
 use Rattle.search_rule.proofs.Counts.{points}
 use Rattle.search_rule.proofs.Rounds.{NoWider, inward-no-wider, pick-holds, is-short}
@@ -26,13 +26,13 @@ NotAllShort unreadable = Unit {0}
 NotAllShort allShort = ⊥
 
 -- All of n are short: the part ends so after n points, and no other follows.
-outward-short : (ev : Trials) (n : ℕ) (short : End) (place : ℕ) (tried : List Point) (f : Part) → ShortBefore ev place n
-    → (endingOf (onward tried (outward ev n short place) f) ≡ allShort) × (points (onward tried (outward ev n short place) f) ≡ n)
+outward-short : (ev : Trials) (n place : ℕ) (short : End) (tried : List Point) (f : Part) → ShortBefore ev place n
+    → (endingOf (onward tried (outward ev n place short) f) ≡ allShort) × (points (onward tried (outward ev n place short) f) ≡ n)
 unfolding endingOf pointsIn onward outward
-outward-short ev zero short place tried f h = (refl, refl)
-outward-short ev (suc n) short place tried f h =
-    let o = on-short (ev place .sort) short place (ev place) (λ next. outward ev n next (place + 2 ^ 52)) (rw (outPoint-zero place) at (h 0 (omega arith))) in
-    let x = outward-short ev n (endAt place (o .0)) (place + 2 ^ 52) (tried ++ (pointAt ev place ∷ [])) f (λ i l. rw (← outPoint-suc place i) (h (suc i) (omega arith))) in
+outward-short ev zero place short tried f h = (refl, refl)
+outward-short ev (suc n) place short tried f h =
+    let o = on-short (ev place .sort) short place (ev place) (outward ev n (place + 2 ^ 52)) (rw (outPoint-zero place) at (h 0 (omega arith))) in
+    let x = outward-short ev n (place + 2 ^ 52) (endAt place (o .0)) (tried ++ (pointAt ev place ∷ [])) f (λ i l. rw (← outPoint-suc place i) (h (suc i) (omega arith))) in
     rw (o .2) (x .0, ap suc (x .1))
 
 -- An outward point from which it ends so is short.
@@ -44,15 +44,15 @@ short-step (Past r) short place t next e = absurd (subst NotAllShort e tt)
 short-step Exact short place t next e = absurd (subst NotAllShort e tt)
 short-step Unreadable short place t next e = absurd (subst NotAllShort e tt)
 
-short-outward : (ev : Trials) (n : ℕ) (short : End) (place : ℕ) → endingOf (outward ev n short place) ≡ allShort → ShortBefore ev place n
+short-outward : (ev : Trials) (n place : ℕ) (short : End) → endingOf (outward ev n place short) ≡ allShort → ShortBefore ev place n
 unfolding endingOf outward
-short-outward ev zero short place e i l = absurd (omega arith)
-short-outward ev (suc n) short place e zero l =
-    let x = short-step (ev place .sort) short place (ev place) (λ next. outward ev n next (place + 2 ^ 52)) e in
+short-outward ev zero place short e i l = absurd (omega arith)
+short-outward ev (suc n) place short e zero l =
+    let x = short-step (ev place .sort) short place (ev place) (outward ev n (place + 2 ^ 52)) e in
     rw (outPoint-zero place, x .1) tt
-short-outward ev (suc n) short place e (suc i) l =
-    let x = short-step (ev place .sort) short place (ev place) (λ next. outward ev n next (place + 2 ^ 52)) e in
-    rw (outPoint-suc place i) (short-outward ev n (endAt place (x .0)) (place + 2 ^ 52) (x .2) i (omega arith))
+short-outward ev (suc n) place short e (suc i) l =
+    let x = short-step (ev place .sort) short place (ev place) (outward ev n (place + 2 ^ 52)) e in
+    rw (outPoint-suc place i) (short-outward ev n (place + 2 ^ 52) (endAt place (x .0)) (x .2) i (omega arith))
 
 -- The rounds never end so.
 moved-not : (v : Sort) (s : Pair) (p : ℕ) (t : Trial) → NotAllShort (movedBy v s p t)
@@ -78,14 +78,14 @@ module _ (ev : Trials) (pr : Proposal) (first : ℕ) (error : Float) where
   pub all-short : (endingOf (history ev pr first error) ≡ allShort) ↔ AllOutwardShort ev first
   unfolding history
   all-short = (
-    λ e. short-outward ev 41 (endAt 0 error) first (onward-not [] (outward ev 41 (endAt 0 error) first) (inward ev pr 63 0) (inward-not ev pr 63 0) e),
-    λ h. outward-short ev 41 (endAt 0 error) first [] (inward ev pr 63 0) h .0,
+    λ e. short-outward ev 41 first (endAt 0 error) (onward-not [] (outwardPart ev first error) (inward ev pr 63 0) (inward-not ev pr 63 0) e),
+    λ h. outward-short ev 41 first (endAt 0 error) [] (inward ev pr 63 0) h .0,
   )
 
   -- With the 41 points used.
   pub all-short-points : AllOutwardShort ev first → points (history ev pr first error) ≡ 41
   unfolding history
-  all-short-points h = outward-short ev 41 (endAt 0 error) first [] (inward ev pr 63 0) h .1
+  all-short-points h = outward-short ev 41 first (endAt 0 error) [] (inward ev pr 63 0) h .1
 
 -- ---- An unreadable point.
 
@@ -174,10 +174,10 @@ module _ (ev : Trials) where
   unfolding halving
   halving-fair s = pick-holds (Fair) (isWide s) (λ e. attempt-fair s (halfway s)) (λ e. tt)
 
-  outward-fair : (k : ℕ) (short : End) (place : ℕ) → Fair (outward ev k short place)
+  outward-fair : (k place : ℕ) (short : End) → Fair (outward ev k place short)
   unfolding outward
-  outward-fair zero short place = tt
-  outward-fair (suc k) short place = go (ev place .sort) (λ next. outward ev k next (place + 2 ^ 52)) (λ next. outward-fair k next (place + 2 ^ 52))
+  outward-fair zero place short = tt
+  outward-fair (suc k) place short = go (ev place .sort) (outward ev k (place + 2 ^ 52)) (outward-fair k (place + 2 ^ 52))
     where
       go : (v : Sort) (next : End → History) → ((e : End) → Fair (next e))
           → Follows v (Fair (goingOn (outwardBy v short place (ev place)) next)) (goingOn (outwardBy v short place (ev place)) next)
@@ -202,7 +202,7 @@ module _ (ev : Trials) where
     module _ (first : ℕ) (error : Float) where
       history-fair : Fair (history ev pr first error)
       unfolding history
-      history-fair = onward-fair [] (outward ev 41 (endAt 0 error) first) (inward ev pr 63 0) (outward-fair 41 (endAt 0 error) first) (inward-fair 63 0)
+      history-fair = onward-fair [] (outwardPart ev first error) (inward ev pr 63 0) (outward-fair 41 first (endAt 0 error)) (inward-fair 63 0)
 
       -- Refusal 6: "a point that the search tries is unreadable"; it is then the last, so that the points are those "used so far".
       pub unreadable-last : endingOf (history ev pr first error) ≡ unreadable → LastUnreadable (pointsIn (history ev pr first error))

@@ -16,7 +16,7 @@ use Rattle.search_points.specs.declared.figures.Sort.{Sort}
 use Rattle.search_points.specs.declared.figures.Sort.the-variants.{Short, Past, Exact, Unreadable}
 use Rattle.search_rule.specs.declared.pair.End.{End}
 use Rattle.search_rule.specs.declared.pair.Pair.{Pair}
-use Rattle.search_rule.specs.Rule.{Point, Trials, Proposal, Ending, between, exact, unreadable, allShort, History, tries, ends, pointsIn, endingOf, Part, onward, endAt, movedBy, moved, attempt, gap, isWide, halfway, halving, isInside, round, inward, history, outward, outwardBy, goingOn}
+use Rattle.search_rule.specs.Rule.{Point, Trials, Proposal, Ending, between, exact, unreadable, allShort, History, tries, ends, pointsIn, endingOf, Part, onward, endAt, movedBy, moved, attempt, gap, isWide, halfway, halving, isInside, round, inward, history, outward, outwardPart, outwardBy, goingOn}
 use Rattle.search_rule.specs.RulePromise.{IsShort, historyIn}
 use Rattle.search_rule.proofs.Counts.{points, onward-points, outward-points, inward-points}
 
@@ -154,18 +154,18 @@ module _ (ev : Trials) where
     step-gap Unreadable short place next w h = tt
 
     -- The pair that the outward part ends with: two outward points, 2 ^ 52 places apart, or the first of them and the short place before it.
-    outward-gap : (n : ℕ) (short : End) (place : ℕ) → 2 ^ 52 ≤ g → place - short .place ≤ g → NoWider Any g (endingOf (outward ev n short place))
+    outward-gap : (n place : ℕ) (short : End) → 2 ^ 52 ≤ g → place - short .place ≤ g → NoWider Any g (endingOf (outward ev n place short))
     unfolding endingOf outward
-    outward-gap zero short place l w = tt
-    outward-gap (suc n) short place l w =
-        step-gap (ev place .sort) short place (λ next. outward ev n next (place + 2 ^ 52)) (λ _ _. w) (λ r. outward-gap n (endAt place r) (place + 2 ^ 52) l (omega arith))
+    outward-gap zero place short l w = tt
+    outward-gap (suc n) place short l w =
+        step-gap (ev place .sort) short place (outward ev n (place + 2 ^ 52)) (λ _ _. w) (λ r. outward-gap n (place + 2 ^ 52) (endAt place r) l (omega arith))
 
   -- An outward point that isn't short is the last one.
-  one-point : (n : ℕ) (short : End) (place : ℕ) → (IsShort (ev place .sort) → ⊥) → points (outward ev (suc n) short place) ≤ 1
+  one-point : (n place : ℕ) (short : End) → (IsShort (ev place .sort) → ⊥) → points (outward ev (suc n) place short) ≤ 1
   unfolding outward pointsIn
-  one-point n short place h = omega (arith, go (ev place .sort) h)
+  one-point n place short h = omega (arith, go (ev place .sort) h)
     where
-      go : (v : Sort) → (IsShort v → ⊥) → points (goingOn (outwardBy v short place (ev place)) (λ next. outward ev n next (place + 2 ^ 52))) ≤ 0
+      go : (v : Sort) → (IsShort v → ⊥) → points (goingOn (outwardBy v short place (ev place)) (outward ev n (place + 2 ^ 52))) ≤ 0
       go (Short r) x = absurd (x tt)
       go (Past r) x = omega arith
       go Exact x = omega arith
@@ -173,19 +173,19 @@ module _ (ev : Trials) where
 
   module _ (first : ℕ) (error : Float) where
     -- From k = 0 the gap is at most 2 ^ 63, from k >= 1 at most 2 ^ 52.
-    pub gap-63 : first < 2 ^ 63 → NoWider Any (2 ^ 63) (endingOf (outward ev 41 (endAt 0 error) first))
-    gap-63 h = outward-gap (2 ^ 63) 41 (endAt 0 error) first (omega arith) (omega arith)
+    pub gap-63 : first < 2 ^ 63 → NoWider Any (2 ^ 63) (endingOf (outwardPart ev first error))
+    gap-63 h = outward-gap (2 ^ 63) 41 first (endAt 0 error) (omega arith) (omega arith)
 
-    pub gap-52 : IsShort (ev first .sort) → NoWider Any (2 ^ 52) (endingOf (outward ev 41 (endAt 0 error) first))
+    pub gap-52 : IsShort (ev first .sort) → NoWider Any (2 ^ 52) (endingOf (outwardPart ev first error))
     unfolding endingOf outward
     gap-52 h =
-        step-gap (2 ^ 52) (ev first .sort) (endAt 0 error) first (λ next. outward ev 40 next (first + 2 ^ 52)) (λ r e. absurd (subst IsShort e h))
-        (λ r. outward-gap (2 ^ 52) 40 (endAt first r) (first + 2 ^ 52) (omega arith) (omega arith))
+        step-gap (2 ^ 52) (ev first .sort) (endAt 0 error) first (outward ev 40 (first + 2 ^ 52)) (λ r e. absurd (subst IsShort e h))
+        (λ r. outward-gap (2 ^ 52) 40 (first + 2 ^ 52) (endAt first r) (omega arith) (omega arith))
 
     module _ (pr : Proposal) where
-      historyIn-same : (g more : ℕ) → NoWider Any (2 ^ g) (endingOf (outward ev 41 (endAt 0 error) first)) → historyIn (g + more) ev pr first error ≡ historyIn g ev pr first error
+      historyIn-same : (g more : ℕ) → NoWider Any (2 ^ g) (endingOf (outwardPart ev first error)) → historyIn (g + more) ev pr first error ≡ historyIn g ev pr first error
       historyIn-same g more h =
-          let out = outward ev 41 (endAt 0 error) first in
+          let out = outwardPart ev first error in
           onward-same [] [] out (inward ev pr (g + more) 0) (inward ev pr g 0) (λ s x. rounds-enough ev pr g more 0 (pointsIn out) s (subst (NoWider Any (2 ^ g)) x h .1))
 
       -- "At most 63 rounds" is no rule of its own: with any more of them the history is the same.
@@ -202,11 +202,11 @@ module _ (ev : Trials) where
       pub points-145 : IsShort (ev first .sort) → points (history ev pr first error) ≤ 145
       points-145 h =
           rw (rounds-52 h)
-          (omega (arith, onward-points 104 [] (outward ev 41 (endAt 0 error) first) (inward ev pr 52 0) (inward-points ev pr 52 0), outward-points ev 41 (endAt 0 error) first))
+          (omega (arith, onward-points 104 [] (outwardPart ev first error) (inward ev pr 52 0) (inward-points ev pr 52 0), outward-points ev 41 first (endAt 0 error)))
 
       pub points-127 : (IsShort (ev first .sort) → ⊥) → points (history ev pr first error) ≤ 127
       unfolding history
-      points-127 h = omega (arith, onward-points 126 [] (outward ev 41 (endAt 0 error) first) (inward ev pr 63 0) (inward-points ev pr 63 0), one-point 40 (endAt 0 error) first h)
+      points-127 h = omega (arith, onward-points 126 [] (outwardPart ev first error) (inward ev pr 63 0) (inward-points ev pr 63 0), one-point 40 first (endAt 0 error) h)
 
       pub points-sharp : points (history ev pr first error) ≤ 145
       points-sharp = ⊎-elim points-145 (λ h. omega (arith, points-127 h)) (is-short (ev first .sort))

@@ -74,18 +74,18 @@ turnsLeft b left = 2 * left + pick b 1 0
 
 module _ (ev : Trials) where
   -- ---- outward
-  pub outward-turn : (k n : ℕ) (short : End) (place : ℕ) → 0 < k
-      → counted n (outward ev k short place) ≡ counted (n + 1) (goingOn (outwardStep short place (ev place)) (λ next. outward ev (k - 1) next (place + 2 ^ 52)))
+  pub outward-turn : (k n place : ℕ) (short : End) → 0 < k
+      → counted n (outward ev k place short) ≡ counted (n + 1) (goingOn (outwardStep short place (ev place)) (outward ev (k - 1) (place + 2 ^ 52)))
   unfolding outward counted
-  outward-turn zero n short place h = absurd (omega arith)
-  outward-turn (suc k) n short place h =
+  outward-turn zero n place short h = absurd (omega arith)
+  outward-turn (suc k) n place short h =
       let e : k ≡ suc k - 1 = omega arith in
-      ap (λ (j : ℕ). counted (n + 1) (goingOn (outwardStep short place (ev place)) (λ next. outward ev j next (place + 2 ^ 52)))) e
+      ap (λ (j : ℕ). counted (n + 1) (goingOn (outwardStep short place (ev place)) (outward ev j (place + 2 ^ 52)))) e
 
-  pub outward-none : (k n : ℕ) (short : End) (place : ℕ) → k ≤ 0 → next.AllShort n ≡ counted n (outward ev k short place)
+  pub outward-none : (k n place : ℕ) (short : End) → k ≤ 0 → next.AllShort n ≡ counted n (outward ev k place short)
   unfolding outward counted
-  outward-none zero n short place h = refl
-  outward-none (suc k) n short place h = absurd (omega arith)
+  outward-none zero n place short h = refl
+  outward-none (suc k) n place short h = absurd (omega arith)
 
   -- ---- inward, where the proposal looks at the pair alone
   module _ (propose : Pair → ℕ) where

@@ -91,11 +91,14 @@ abbrev pub goingOn : Outward → (End → History) → History
 goingOn (on short) next = next short
 goingOn (stop e) next = ends e
 
--- With k points left, after a short end.
-unfoldable pub outward : Trials → (k : ℕ) (short : End) (place : ℕ) → History
-outward ev zero short place = ends allShort
-outward ev (suc k) short place =
-    tries (pointAt ev place) (goingOn (outwardStep short place (ev place)) (λ next. outward ev k next (place + 2 ^ 52)))
+-- With k points left, from this place on, after a short end.
+unfoldable pub outward : Trials → (k place : ℕ) → (short : End) → History
+outward ev zero place short = ends allShort
+outward ev (suc k) place short = tries (pointAt ev place) (goingOn (outwardStep short place (ev place)) (outward ev k (place + 2 ^ 52)))
+
+-- From the first place, the place of |H|, on, with the time error of place 0.
+abbrev pub outwardPart : Trials → (first : ℕ) (error : Float) → History
+outwardPart ev first error = outward ev 41 first (endAt 0 error)
 
 -- ---- "Inward, in rounds while the two places differ by more than 1"
 
@@ -143,9 +146,9 @@ unfoldable pub inward : Trials → Proposal → (left k : ℕ) → Part
 inward ev pr zero k tried s = ends (between s)
 inward ev pr (suc left) k tried s = pick (isWide s) (onward tried (round ev pr k tried s) (inward ev pr left (k + 1))) (ends (between s))
 
--- The whole history, from the place of |H| and the time error of place 0.
+-- The whole history.
 unfoldable pub history : Trials → Proposal → (first : ℕ) (error : Float) → History
-history ev pr first error = onward [] (outward ev 41 (endAt 0 error) first) (inward ev pr 63 0)
+history ev pr first error = onward [] (outwardPart ev first error) (inward ev pr 63 0)
 
 -- ---- The history as the code keeps it: how it ends, and how many points there were.
 abbrev pub nextOf : ℕ → Ending → Next

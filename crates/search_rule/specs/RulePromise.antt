@@ -6,7 +6,7 @@ use mathlib.Core.Logic.{_⊎_}
 use lib.Ieee.{Float}
 use Rattle.search_points.specs.declared.figures.Sort.{Sort}
 use Rattle.search_points.specs.declared.figures.Sort.the-variants.{Short, Past, Exact, Unreadable}
-use Rattle.search_rule.specs.Rule.{Point, Trials, Proposal, Ending, between, exact, unreadable, allShort, History, endingOf, onward, endAt, outward, inward, history}
+use Rattle.search_rule.specs.Rule.{Point, Trials, Proposal, Ending, between, exact, unreadable, allShort, History, endingOf, onward, outwardPart, inward, history}
 
 -- What the rule asks of a trial function: place 0 is short, with the error given, and no place from 2 ^ 63 on is readable.
 pub record Sorts (ev : Trials) (error : Float) : Type 0 where
@@ -70,7 +70,7 @@ EndsSo = (ev : Trials) (pr : Proposal) (first : ℕ) (error : Float) → Sorts e
 
 -- ---- The history with another number of rounds, for the sharper bounds that the places give.
 abbrev pub historyIn : (rounds : ℕ) → Trials → Proposal → (first : ℕ) (error : Float) → History
-historyIn rounds ev pr first error = onward [] (outward ev 41 (endAt 0 error) first) (inward ev pr rounds 0)
+historyIn rounds ev pr first error = onward [] (outwardPart ev first error) (inward ev pr rounds 0)
 
 -- ---- An unreadable point: some point of these is one.
 abbrev pub SomeUnreadable : List Point → Type 0

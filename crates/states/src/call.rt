@@ -54,12 +54,7 @@ pub fn answered_with(points: u64, results: Results) -> Answer
 }
 
 // What a search of the interval reaches from a state: refusals 5 and 6, or the arc of the found anomaly.
-fn reached_by(
-    initial: Initial,
-    state: State,
-    tau: Seconds,
-    found: search::Finding,
-) -> Reached
+fn reached_by(initial: Initial, state: State, tau: Seconds, found: search::Finding) -> Reached
     ensures { λ r. ⌜ r ≡ reachedBy initial state tau found ⌝ }
 {
     match found {

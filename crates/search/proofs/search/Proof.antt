@@ -49,7 +49,7 @@ enum-known-next c = search needs
 inward-requires : tie.Need-inward-requires
 inward-requires c κs =
     let a = c .before .before .before .before .before .before .before .args in
-    omega (arith, between-used _ _ _ (c .before .before .before .outward .ensures) (c .before .next .given .1), outward-points (trialAt (a .initial) (a .tau)) 41 (endAt 0 (neg (a .tau .0))) (c .before .before .before .before .place-of .result))
+    omega (arith, between-used _ _ _ (c .before .before .before .outward .ensures) (c .before .next .given .1), outward-points (trialAt (a .initial) (a .tau)) 41 (c .before .before .before .before .place-of .result) (endAt 0 (neg (a .tau .0))))
 
 finding-of-requires : tie.Need-finding-of-requires
 finding-of-requires c κs = search needs

@@ -22,16 +22,18 @@ returns : tie.Need-returns
 unfolding offeredAt
 returns c =
     simp (
-    sym (c .before .before .before .before .is-finite .ensures) ∙ c .before .before .before .if1 .taken,
-    sym (c .before .before .has-sign .ensures) ∙ c .before .if2 .taken)
+      sym (c .before .before .before .before .is-finite .ensures) ∙ c .before .before .before .if1 .taken,
+      sym (c .before .before .has-sign .ensures) ∙ c .before .if2 .taken,
+    )
     (c .inside .ensures)
 
 returns-2 : tie.Need-returns-2
 unfolding offeredAt
 returns-2 c =
     simp (
-    sym (c .before .before .before .is-finite .ensures) ∙ c .before .before .if1 .taken,
-    sym (c .before .has-sign .ensures) ∙ c .if2 .left)
+      sym (c .before .before .before .is-finite .ensures) ∙ c .before .before .if1 .taken,
+      sym (c .before .has-sign .ensures) ∙ c .if2 .left,
+    )
 
 returns-3 : tie.Need-returns-3
 unfolding offeredAt
