@@ -48,7 +48,7 @@ module _ (tau : Seconds) (n : ℕ) where
 
   module _ (i : Initial) where
     found-at : (e : Ending) → IsFound (trialAt i tau) e → (p : ℕ) × (findingAt e ≡ finding.Found (anomalyAt tau p) n) × IsAnomaly i tau p
-    found-at (between s) x = (s .short .place, refl, inr (s .short .error, s .past .error, x .0, x .1))
+    found-at (between s) x = (s .short .place, refl, inr (s .short .error, s .past .error, x .0, rw (x .2) at (x .1)))
     found-at (exact p) x = (p, refl, inl x)
     found-at unreadable x = absurd x
     found-at allShort x = absurd x

@@ -33,7 +33,8 @@ neg-fields (suc x) t = by-test (eqb (suc x) 2047)
     special true = refl
     special false = refl
 
-    by-test : (b : Bool) → cond b (cond (eqb t 0) (inf true) nan) (odd 53 true (2 ^ 52 + t) x 1074) ≡ neg (cond b (cond (eqb t 0) (inf false) nan) (odd 53 false (2 ^ 52 + t) x 1074))
+    by-test : (b : Bool) → cond b (cond (eqb t 0) (inf true) nan) (odd 53 true (2 ^ 52 + t) x 1074)
+        ≡ neg (cond b (cond (eqb t 0) (inf false) nan) (odd 53 false (2 ^ 52 + t) x 1074))
     by-test true = special (eqb t 0)
     by-test false = neg-odd 53 (2 ^ 52 + t) x 1074
 
@@ -156,6 +157,7 @@ pub above-zero : (i : Initial) (tau : Seconds) (place : ℕ) → 0 < place → e
 unfolding trialAt
 above-zero i tau place h = rw (ne-eqb place 0 (λ e. omega arith)) (by-test (leb infinity place) refl)
   where
-    by-test : (b : Bool) → leb infinity place ≡ b → evaluatedAt i tau (anomalyAt tau place) ≡ pick b (unevaluated Unreadable) (evaluatedAt i tau (anomalyAt tau place))
+    by-test : (b : Bool) → leb infinity place ≡ b
+        → evaluatedAt i tau (anomalyAt tau place) ≡ pick b (unevaluated Unreadable) (evaluatedAt i tau (anomalyAt tau place))
     by-test true e = beyond i tau place e
     by-test false e = refl

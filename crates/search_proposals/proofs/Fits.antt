@@ -54,5 +54,6 @@ module _ (s : Pair) where
     unfolding proposed
     offer-fits b =
         fits-pick b
-        (else-fits (byRadius i tau s) (orElse (byInterval tau s) (byEnds tau s)) radius-fits (else-fits (byInterval tau s) (byEnds tau s) interval-fits ends-fits))
+        (else-fits (byRadius i tau s) (orElse (byInterval tau s) (byEnds tau s)) radius-fits
+        (else-fits (byInterval tau s) (byEnds tau s) interval-fits ends-fits))
         fits-none

@@ -13,14 +13,15 @@ use Rattle.search_points.specs.declared.figures.Sort.the-variants.{Short, Past,
 use Rattle.search_points.specs.declared.figures.Trial.{Trial}
 use Rattle.search_rule.specs.declared.pair.End.{End}
 use Rattle.search_rule.specs.declared.pair.Pair.{Pair}
-use Rattle.search_rule.specs.Rule.{Trials, Proposal, Ending, between, exact, unreadable, allShort, History, endingOf, endAt, outwardBy, goingOn, outward, outwardPart, movedBy, moved, inward, history}
-use Rattle.search_rule.specs.RulePromise.{IsShort, outPoint, Sorts, FirstNotShort, ReadableUpTo, IsFound, Finds}
+use Rattle.search_rule.specs.Rule.{Trials, Proposal, Ending, between, exact, unreadable, allShort, History, endingOf, endAt, outwardBy, goingOn}
+use Rattle.search_rule.specs.Rule.{outward, outwardPart, movedBy, moved, inward, history}
+use Rattle.search_rule.specs.RulePromise.{IsShort, outPoint, Sorts, FirstNotShort, ReadableUpTo, IsShortEnd, IsPastEnd, IsFound, Finds}
 use Rattle.search_rule.proofs.Rounds.{NoWider, onward-no-wider, inward-no-wider}
 
 -- A pair that holds: its ends are what it says, in order, and not beyond the first outward point that isn't short.
 pub record Held (ev : Trials) (top : ℕ) (s : Pair) : Type 0 where
-  pub short-is : ev (s .short .place) .sort ≡ Short (s .short .error)
-  pub past-is : ev (s .past .place) .sort ≡ Past (s .past .error)
+  pub short-is : IsShortEnd ev (s .short)
+  pub past-is : IsPastEnd ev (s .past)
   pub order : s .short .place < s .past .place
   pub inside : s .past .place ≤ top
 
@@ -49,7 +50,8 @@ pub outPoint-suc : (place k : ℕ) → outPoint place (suc k) ≡ outPoint (plac
 outPoint-suc place k = omega arith
 
 -- A short outward point goes on from its own error.
-pub on-short : (v : Sort) (short : End) (place : ℕ) (t : Trial) (next : End → History) → IsShort v → (r : Float) × (v ≡ Short r) × (goingOn (outwardBy v short place t) next ≡ next (endAt place r))
+pub on-short : (v : Sort) (short : End) (place : ℕ) (t : Trial) (next : End → History) → IsShort v
+    → (r : Float) × (v ≡ Short r) × (goingOn (outwardBy v short place t) next ≡ next (endAt place r))
 on-short (Short r) short place t next h = (r, refl, refl)
 on-short (Past r) short place t next h = absurd h
 on-short Exact short place t next h = absurd h
@@ -57,7 +59,7 @@ on-short Unreadable short place t next h = absurd h
 
 module _ (ev : Trials) where
   -- After a short point, at or before it, an outward point that isn't short is a past one above it, or ends the search.
-  stop-reached : (short : End) (place : ℕ) (next : End → History) → ev (short .place) .sort ≡ Short (short .error) → short .place ≤ place → (IsShort (ev place .sort) → ⊥)
+  stop-reached : (short : End) (place : ℕ) (next : End → History) → IsShortEnd ev short → short .place ≤ place → (IsShort (ev place .sort) → ⊥)
       → Reached ev place (endingOf (goingOn (outwardBy (ev place .sort) short place (ev place)) next))
   unfolding endingOf
   stop-reached short place next hs l ns = go (ev place .sort) refl
@@ -74,7 +76,7 @@ module _ (ev : Trials) where
       go Exact e = (e, omega arith)
       go Unreadable e = (place, e, omega arith)
 
-  outward-reached : (k n place : ℕ) (short : End) → ev (short .place) .sort ≡ Short (short .error) → short .place ≤ place → FirstNotShort ev place n k
+  outward-reached : (k n place : ℕ) (short : End) → IsShortEnd ev short → short .place ≤ place → FirstNotShort ev place n k
       → Reached ev (outPoint place k) (endingOf (outward ev n place short))
   unfolding endingOf outward
   outward-reached k zero place short hs l f = absurd (omega arith)
@@ -117,8 +119,7 @@ module _ (ev : Trials) (pr : Proposal) (first : ℕ) (error : Float) (sorts : So
 pub found : (ev : Trials) (top : ℕ) (e : Ending) → NoWider (Reached ev top) 1 e → IsFound ev e ⊎ ((e ≡ unreadable) × (ReadableUpTo ev top → ⊥))
 found ev top (between s) x =
     let h = x .0 in
-    let next : s .past .place ≡ s .short .place + 1 = omega (arith, h .order, x .1) in
-    inl (h .short-is, rw next at (h .past-is), next)
+    inl (h .short-is, h .past-is, omega (arith, h .order, x .1))
 found ev top (exact p) x = inl (x .0)
 found ev top unreadable x = inr (refl, λ r. r (x .0) (x .2) (x .1))
 found ev top allShort x = absurd x

@@ -12,7 +12,9 @@ use Rattle.search_points.specs.declared.figures.Sort.the-variants.{Short, Past,
 use Rattle.search_points.specs.declared.figures.Trial.{Trial}
 use Rattle.search_rule.specs.declared.pair.End.{End}
 use Rattle.search_rule.specs.declared.pair.Pair.{Pair}
-use Rattle.search_rule.specs.Rule.{Point, Trials, pointAt, Proposal, Ending, between, exact, unreadable, allShort, History, tries, ends, pointsIn, endingOf, Part, onward, endAt, outwardBy, goingOn, outward, outwardPart, movedBy, attempt, gap, isWide, halfway, halving, isInside, round, inward, history}
+use Rattle.search_rule.specs.Rule.{Point, Trials, pointAt, Proposal, Ending, between, exact, unreadable, allShort, History, tries, ends, pointsIn}
+use Rattle.search_rule.specs.Rule.{endingOf, Part, onward, endAt, outwardBy, goingOn, outward, outwardPart, movedBy, attempt, gap, isWide, halfway}
+use Rattle.search_rule.specs.Rule.{halving, isInside, round, inward, history}
 use Rattle.search_rule.specs.RulePromise.{IsShort, outPoint, ShortBefore, AllOutwardShort, FirstNotShort, EndsSo, SomeUnreadable, LastUnreadable}
 use Rattle.search_rule.proofs.Counts.{points}
 use Rattle.search_rule.proofs.Rounds.{NoWider, inward-no-wider, pick-holds, is-short}
@@ -32,7 +34,8 @@ unfolding endingOf pointsIn onward outward
 outward-short ev zero place short tried f h = (refl, refl)
 outward-short ev (suc n) place short tried f h =
     let o = on-short (ev place .sort) short place (ev place) (outward ev n (place + 2 ^ 52)) (rw (outPoint-zero place) at (h 0 (omega arith))) in
-    let x = outward-short ev n (place + 2 ^ 52) (endAt place (o .0)) (tried ++ (pointAt ev place ∷ [])) f (λ i l. rw (← outPoint-suc place i) (h (suc i) (omega arith))) in
+    let later : ShortBefore ev (place + 2 ^ 52) n = λ i l. rw (← outPoint-suc place i) (h (suc i) (omega arith)) in
+    let x = outward-short ev n (place + 2 ^ 52) (endAt place (o .0)) (tried ++ (pointAt ev place ∷ [])) f later in
     rw (o .2) (x .0, ap suc (x .1))
 
 -- An outward point from which it ends so is short.
@@ -63,9 +66,11 @@ moved-not Unreadable s p t = tt
 
 inward-not : (ev : Trials) (pr : Proposal) (left k : ℕ) (tried : List Point) (s : Pair) → endingOf (inward ev pr left k tried s) ≡ allShort → ⊥
 inward-not ev pr left k tried s e =
-    subst (NoWider NotAllShort (1 + gap s)) e (inward-no-wider NotAllShort ev (λ s' p _ _ _. moved-not (ev p .sort) s' p (ev p)) pr left k tried s (gap s) tt (omega arith))
+    subst (NoWider NotAllShort (1 + gap s)) e
+    (inward-no-wider NotAllShort ev (λ s' p _ _ _. moved-not (ev p .sort) s' p (ev p)) pr left k tried s (gap s) tt (omega arith))
 
-onward-not : (tried : List Point) (h : History) (f : Part) → ((l : List Point) (s : Pair) → endingOf (f l s) ≡ allShort → ⊥) → endingOf (onward tried h f) ≡ allShort → endingOf h ≡ allShort
+onward-not : (tried : List Point) (h : History) (f : Part) → ((l : List Point) (s : Pair) → endingOf (f l s) ≡ allShort → ⊥)
+    → endingOf (onward tried h f) ≡ allShort → endingOf h ≡ allShort
 unfolding endingOf onward
 onward-not tried (tries p h) f n e = onward-not (tried ++ (p ∷ [])) h f n e
 onward-not tried (ends (between s)) f n e = absurd (n tried s e)
@@ -172,7 +177,7 @@ module _ (ev : Trials) where
 
   halving-fair : (s : Pair) → Fair (halving ev s)
   unfolding halving
-  halving-fair s = pick-holds (Fair) (isWide s) (λ e. attempt-fair s (halfway s)) (λ e. tt)
+  halving-fair s = pick-holds Fair (isWide s) (λ e. attempt-fair s (halfway s)) (λ e. tt)
 
   outward-fair : (k place : ℕ) (short : End) → Fair (outward ev k place short)
   unfolding outward
@@ -191,13 +196,15 @@ module _ (ev : Trials) where
     unfolding round
     round-fair k tried s =
         let p = pr k tried s in
-        pick-holds (Fair) (isInside s p) (λ e. onward-fair tried (attempt ev s p) (λ _. halving ev) (attempt-fair s p) (λ _. halving-fair)) (λ e. halving-fair s)
+        pick-holds Fair (isInside s p) (λ e. onward-fair tried (attempt ev s p) (λ _. halving ev) (attempt-fair s p) (λ _. halving-fair)) (λ e. halving-fair s)
 
     inward-fair : (left k : ℕ) (tried : List Point) (s : Pair) → Fair (inward ev pr left k tried s)
     unfolding inward
     inward-fair zero k tried s = tt
     inward-fair (suc left) k tried s =
-        pick-holds (Fair) (isWide s) (λ e. onward-fair tried (round ev pr k tried s) (inward ev pr left (k + 1)) (round-fair k tried s) (inward-fair left (k + 1))) (λ e. tt)
+        pick-holds Fair (isWide s)
+        (λ e. onward-fair tried (round ev pr k tried s) (inward ev pr left (k + 1)) (round-fair k tried s) (inward-fair left (k + 1)))
+        (λ e. tt)
 
     module _ (first : ℕ) (error : Float) where
       history-fair : Fair (history ev pr first error)
@@ -232,5 +239,7 @@ pub ends-so : EndsSo
 ends-so ev pr first error sorts =
     ⊎-elim
     (λ all. inr (inr (all-short ev pr first error .1 all)))
-    (λ f. ⊎-elim inl (λ u. inr (inl (u .0))) (found ev (outPoint first (f .0)) (endingOf (history ev pr first error)) (history-reached ev pr first error sorts (f .0) (f .1))))
+    (λ f.
+    ⊎-elim inl (λ u. inr (inl (u .0)))
+    (found ev (outPoint first (f .0)) (endingOf (history ev pr first error)) (history-reached ev pr first error sorts (f .0) (f .1))))
     (first-of ev first 41)

@@ -16,7 +16,9 @@ use Rattle.search_points.specs.declared.figures.Sort.{Sort}
 use Rattle.search_points.specs.declared.figures.Sort.the-variants.{Short, Past, Exact, Unreadable}
 use Rattle.search_rule.specs.declared.pair.End.{End}
 use Rattle.search_rule.specs.declared.pair.Pair.{Pair}
-use Rattle.search_rule.specs.Rule.{Point, Trials, Proposal, Ending, between, exact, unreadable, allShort, History, tries, ends, pointsIn, endingOf, Part, onward, endAt, movedBy, moved, attempt, gap, isWide, halfway, halving, isInside, round, inward, history, outward, outwardPart, outwardBy, goingOn}
+use Rattle.search_rule.specs.Rule.{Point, Trials, Proposal, Ending, between, exact, unreadable, allShort, History, tries, ends, pointsIn, endingOf}
+use Rattle.search_rule.specs.Rule.{Part, onward, endAt, movedBy, moved, attempt, gap, isWide, halfway, halving, isInside, round, inward, history}
+use Rattle.search_rule.specs.Rule.{outward, outwardPart, outwardBy, goingOn}
 use Rattle.search_rule.specs.RulePromise.{IsShort, historyIn}
 use Rattle.search_rule.proofs.Counts.{points, onward-points, outward-points, inward-points}
 
@@ -53,7 +55,8 @@ module _ (K : Ending → Type 0) where
   onward-no-wider g g' tried (ends allShort) f x next = x
 
   module _ (ev : Trials) (keeps : (s : Pair) (p : ℕ) → K (between s) → s .short .place < p → p < s .past .place → K (moved s p (ev p))) where
-    moved-no-wider : (g : ℕ) (s : Pair) (p : ℕ) → K (between s) → s .short .place < p → p < s .past .place → p - s .short .place ≤ g → s .past .place - p ≤ g → NoWider K g (moved s p (ev p))
+    moved-no-wider : (g : ℕ) (s : Pair) (p : ℕ) → K (between s) → s .short .place < p → p < s .past .place → p - s .short .place ≤ g → s .past .place - p ≤ g
+        → NoWider K g (moved s p (ev p))
     moved-no-wider g s p k lo hi l r = go (ev p .sort) (keeps s p k lo hi)
       where
         go : (v : Sort) → K (movedBy v s p (ev p)) → NoWider K g (movedBy v s p (ev p))
@@ -87,7 +90,8 @@ module _ (K : Ending → Type 0) where
           (λ e. halving-no-wider g s g1 k w)
 
       -- So many rounds close a pair of 2 ^ left places, and bring one that is w wider to 1 + w.
-      pub inward-no-wider : (left k : ℕ) (tried : List Point) (s : Pair) (w : ℕ) → K (between s) → gap s ≤ 2 ^ left + w → NoWider K (1 + w) (endingOf (inward ev pr left k tried s))
+      pub inward-no-wider : (left k : ℕ) (tried : List Point) (s : Pair) (w : ℕ) → K (between s) → gap s ≤ 2 ^ left + w
+          → NoWider K (1 + w) (endingOf (inward ev pr left k tried s))
       unfolding endingOf inward
       inward-no-wider zero n tried s w k l = (k, l)
       inward-no-wider (suc left) n tried s w k l =
@@ -183,10 +187,12 @@ module _ (ev : Trials) where
         (λ r. outward-gap (2 ^ 52) 40 (first + 2 ^ 52) (endAt first r) (omega arith) (omega arith))
 
     module _ (pr : Proposal) where
-      historyIn-same : (g more : ℕ) → NoWider Any (2 ^ g) (endingOf (outwardPart ev first error)) → historyIn (g + more) ev pr first error ≡ historyIn g ev pr first error
+      historyIn-same : (g more : ℕ) → NoWider Any (2 ^ g) (endingOf (outwardPart ev first error))
+          → historyIn (g + more) ev pr first error ≡ historyIn g ev pr first error
       historyIn-same g more h =
           let out = outwardPart ev first error in
-          onward-same [] [] out (inward ev pr (g + more) 0) (inward ev pr g 0) (λ s x. rounds-enough ev pr g more 0 (pointsIn out) s (subst (NoWider Any (2 ^ g)) x h .1))
+          onward-same [] [] out (inward ev pr (g + more) 0) (inward ev pr g 0)
+          (λ s x. rounds-enough ev pr g more 0 (pointsIn out) s (subst (NoWider Any (2 ^ g)) x h .1))
 
       -- "At most 63 rounds" is no rule of its own: with any more of them the history is the same.
       pub rounds-63 : first < 2 ^ 63 → (more : ℕ) → historyIn (63 + more) ev pr first error ≡ history ev pr first error
@@ -198,15 +204,16 @@ module _ (ev : Trials) where
       unfolding history
       rounds-52 h = historyIn-same 52 11 (gap-52 h)
 
+      rounds-points : (rounds : ℕ) → points (historyIn rounds ev pr first error) ≤ points (outwardPart ev first error) + 2 * rounds
+      rounds-points rounds = onward-points (2 * rounds) [] (outwardPart ev first error) (inward ev pr rounds 0) (inward-points ev pr rounds 0)
+
       -- So there are at most 41 + 2 * 52 points after a short first point, and else at most 1 + 2 * 63.
       pub points-145 : IsShort (ev first .sort) → points (history ev pr first error) ≤ 145
-      points-145 h =
-          rw (rounds-52 h)
-          (omega (arith, onward-points 104 [] (outwardPart ev first error) (inward ev pr 52 0) (inward-points ev pr 52 0), outward-points ev 41 first (endAt 0 error)))
+      points-145 h = rw (rounds-52 h) (omega (arith, rounds-points 52, outward-points ev 41 first (endAt 0 error)))
 
       pub points-127 : (IsShort (ev first .sort) → ⊥) → points (history ev pr first error) ≤ 127
       unfolding history
-      points-127 h = omega (arith, onward-points 126 [] (outwardPart ev first error) (inward ev pr 63 0) (inward-points ev pr 63 0), one-point 40 first (endAt 0 error) h)
+      points-127 h = omega (arith, rounds-points 63, one-point 40 first (endAt 0 error) h)
 
       pub points-sharp : points (history ev pr first error) ≤ 145
       points-sharp = ⊎-elim points-145 (λ h. omega (arith, points-127 h)) (is-short (ev first .sort))

@@ -1,5 +1,5 @@
--- What the code's loops cite: a turn of the history at a time. Where a proposal looks at the pair alone, what is left of the history does not depend on the points
--- tried before, nor on the round's number.
+-- What the code's loops cite: a turn of the history at a time. Where a proposal looks at the pair alone, what is left of the history does not depend
+-- on the points tried before, nor on the round's number.
 use Prim.Native.Nat.{ℕ, zero, suc, _+_, _-_, _*_, _^_, _≤_, _<_}
 use mathlib.Core.Path.{_≡_, refl, ap, sym, _∙_, subst}
 use mathlib.Core.Bool.{Bool, true, false}
@@ -17,7 +17,9 @@ use Rattle.search_rule.specs.declared.pair.Pair.{Pair}
 use Rattle.search_rule.specs.declared.pair.Next.{Next}
 use Rattle.search_rule.specs.declared.pair.Next.the-variants as next
 use Rattle.search_rule.specs.declared.pair.Step.the-variants as step
-use Rattle.search_rule.specs.Rule.{Point, Trials, Proposal, between, exact, unreadable, allShort, History, tries, ends, Part, onward, Outward, on, stop, outwardStep, goingOn, outward, attempt, gap, isWide, halfway, halving, isInside, roundFrom, round, inward, counted, stepOf}
+use Rattle.search_rule.specs.Rule.{Point, Trials, Proposal, between, exact, unreadable, allShort, History, tries, ends, Part, onward, Outward, on}
+use Rattle.search_rule.specs.Rule.{stop, outwardStep, goingOn, outward, attempt, gap, isWide, halfway, halving, isInside, roundFrom, round, inward}
+use Rattle.search_rule.specs.Rule.{counted, stepOf}
 use Rattle.search_rule.proofs.Counts.{points, used, used-is}
 use Rattle.search_rule.proofs.Rounds.{onward-same}
 
@@ -111,7 +113,8 @@ module _ (ev : Trials) where
         (λ s' _. inward-same left (k + 1) _ s' ∙ sym (inward-same left (0 + 1) _ s'))
         ∙ ap (λ (h : History). onward [] h (inward ev pairOnly left (0 + 1))) (round-same k tried s))
 
-    pub inward-turn : (left n : ℕ) (s : Pair) → 0 < left → isWide s ≡ true → counted n (rest left s) ≡ after (counted n (round ev pairOnly 0 [] s)) (rest (left - 1))
+    inward-turn : (left n : ℕ) (s : Pair) → 0 < left → isWide s ≡ true
+        → counted n (rest left s) ≡ after (counted n (round ev pairOnly 0 [] s)) (rest (left - 1))
     unfolding inward
     inward-turn zero n s h w = absurd (omega arith)
     inward-turn (suc left) n s h w =
@@ -179,7 +182,9 @@ module _ (ev : Trials) where
           by-test : (b : Bool) → p ≡ pick b (propose s) 0 → (t : Bool) → eqb p 0 ≡ t
               → counted n (stage b left s) ≡ after (counted n (attempt ev s (pick t (halfway s) p))) (stage t (pick t (left - 1) left))
           by-test true e true z = unproposed (sym e ∙ eqb-true p 0 z)
-          by-test true e false z = proposing-turn (subst (λ (q : ℕ). isInside s q ≡ true) e (f .between-ends z)) ∙ ap (λ (q : ℕ). after (counted n (attempt ev s q)) (stage false left)) (sym e)
+          by-test true e false z =
+              proposing-turn (subst (λ (q : ℕ). isInside s q ≡ true) e (f .between-ends z))
+              ∙ ap (λ (q : ℕ). after (counted n (attempt ev s q)) (stage false left)) (sym e)
           by-test false e true z = halving-turn
           by-test false e false z = absurd (eqb-false p 0 z e)
 

@@ -6,7 +6,9 @@ use mathlib.Core.Logic.{_⊎_}
 use lib.Ieee.{Float}
 use Rattle.search_points.specs.declared.figures.Sort.{Sort}
 use Rattle.search_points.specs.declared.figures.Sort.the-variants.{Short, Past, Exact, Unreadable}
-use Rattle.search_rule.specs.Rule.{Point, Trials, Proposal, Ending, between, exact, unreadable, allShort, History, endingOf, onward, outwardPart, inward, history}
+use Rattle.search_rule.specs.declared.pair.End.{End}
+use Rattle.search_rule.specs.Rule.{Point, Trials, Proposal, Ending, between, exact, unreadable, allShort, History, endingOf, onward, outwardPart}
+use Rattle.search_rule.specs.Rule.{inward, history}
 
 -- What the rule asks of a trial function: place 0 is short, with the error given, and no place from 2 ^ 63 on is readable.
 pub record Sorts (ev : Trials) (error : Float) : Type 0 where
@@ -50,10 +52,16 @@ pub record Findable (ev : Trials) (first : ℕ) : Type 0 where
   pub first-not-short : FirstNotShort ev first 41 k
   pub readable : ReadableUpTo ev (outPoint first k)
 
+-- An end of a pair is what it says.
+abbrev pub IsShortEnd : Trials → End → Type 0
+IsShortEnd ev e = ev (e .place) .sort ≡ Short (e .error)
+
+abbrev pub IsPastEnd : Trials → End → Type 0
+IsPastEnd ev e = ev (e .place) .sort ≡ Past (e .error)
+
 -- An anomaly is found: its time error is zero, or it is short and the very next place is past.
 abbrev pub IsFound : Trials → Ending → Type 0
-IsFound ev (between s) =
-    (ev (s .short .place) .sort ≡ Short (s .short .error)) × (ev (s .short .place + 1) .sort ≡ Past (s .past .error)) × (s .past .place ≡ s .short .place + 1)
+IsFound ev (between s) = IsShortEnd ev (s .short) × IsPastEnd ev (s .past) × (s .past .place ≡ s .short .place + 1)
 IsFound ev (exact p) = ev p .sort ≡ Exact
 IsFound ev unreadable = ⊥
 IsFound ev allShort = ⊥

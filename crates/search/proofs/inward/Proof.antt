@@ -25,8 +25,8 @@ abbrev left-from : Initial → Seconds → Bool → ℕ → Pair → History
 left-from i tau = stage (trialAt i tau) (proposed i tau)
 
 -- A turn of the search as the code takes it: what is left after it is what was left before it.
-search-turn : (i : Initial) (tau : Seconds) (left n : ℕ) (s : Pair) → 0 < left → isWide s ≡ true → (b : Bool) {p : ℕ} {x : Next} → p ≡ pick b (proposed i tau s) 0
-    → x ≡ counted n (attempt (trialAt i tau) s (pick (eqb p 0) (halfway s) p))
+search-turn : (i : Initial) (tau : Seconds) (left n : ℕ) (s : Pair) → 0 < left → isWide s ≡ true
+    → (b : Bool) {p : ℕ} {x : Next} → p ≡ pick b (proposed i tau s) 0 → x ≡ counted n (attempt (trialAt i tau) s (pick (eqb p 0) (halfway s) p))
     → after x (left-from i tau (eqb p 0) (pick (eqb p 0) (left - 1) left)) ≡ counted n (left-from i tau b left s)
 search-turn i tau left n s h w b {p} e g =
     ap (λ (y : Next). after y (left-from i tau (eqb p 0) (pick (eqb p 0) (left - 1) left))) g
@@ -59,7 +59,9 @@ offer-requires : tie.Need-offer-requires Inv-loop μ-loop
 offer-requires c κs = search needs
 
 tried-requires : tie.Need-tried-requires Inv-loop μ-loop
-tried-requires c κs = (sym (c .before .before .is-wide .ensures) ∙ not-false _ (c .before .if1 .left), omega (arith, c .before .before .before .before .loop .inv .1))
+tried-requires c κs =
+    let w = c .before .before in
+    (sym (w .is-wide .ensures) ∙ not-false _ (c .before .if1 .left), omega (arith, w .before .before .loop .inv .1))
 
 enum-known-next : tie.Need-enum-known-next Inv-loop μ-loop
 enum-known-next c = search needs
@@ -69,9 +71,12 @@ returns-2 c =
     let w = c .before .before .before .before in
     let l = w .before .before .loop in
     let a = w .before .before .before .args in
-    handed-on (c .before .tried .result) _ (c .match .keys2)
-    ∙ search-turn (a .initial) (a .tau) (l .left) (l .points) (l .pair) (w .before .loop-test .taken)
-    (sym (w .is-wide .ensures) ∙ not-false _ (c .before .before .before .if1 .left)) (eqb (l .offered) 0) (c .before .before .offer .ensures) (c .before .tried .ensures)
+    let o = c .before .before .offer in
+    let t = c .before .tried in
+    let some = w .before .loop-test .taken in
+    let wide = sym (w .is-wide .ensures) ∙ not-false _ (c .before .before .before .if1 .left) in
+    handed-on (t .result) _ (c .match .keys2)
+    ∙ search-turn (a .initial) (a .tau) (l .left) (l .points) (l .pair) some wide (eqb (l .offered) 0) (o .ensures) (t .ensures)
     ∙ l .inv .0
 
 rounds-after-requires : tie.Need-rounds-after-requires Inv-loop μ-loop
@@ -81,7 +86,8 @@ loop-less : tie.Need-loop-less Inv-loop μ-loop
 loop-less c =
     let w = c .before .before .before .before .before .before .before in
     let l = w .before .before .loop in
-    rw (c .rounds-after .ensures) (turns-fewer (l .left) (w .before .loop-test .taken) (eqb (l .offered) 0) _ (c .before .before .before .before .before .offer .ensures))
+    let o = c .before .before .before .before .before .offer in
+    rw (c .rounds-after .ensures) (turns-fewer (l .left) (w .before .loop-test .taken) (eqb (l .offered) 0) _ (o .ensures))
 
 loop-again : tie.Need-loop-again Inv-loop μ-loop
 unfolding pointsIn
@@ -104,7 +110,8 @@ returns-3 : tie.Need-returns-3 Inv-loop μ-loop
 returns-3 c =
     let l = c .before .loop in
     let a = c .before .before .args in
-    stage-none (trialAt (a .initial) (a .tau)) (proposed (a .initial) (a .tau)) (eqb (l .offered) 0) (l .left) (l .points) (l .pair) (c .loop-test .left) (l .inv .2)
+    stage-none (trialAt (a .initial) (a .tau)) (proposed (a .initial) (a .tau)) (eqb (l .offered) 0) (l .left) (l .points) (l .pair)
+    (c .loop-test .left) (l .inv .2)
     ∙ l .inv .0
 
 pub inward-spec : {M : Type 1} → statement M

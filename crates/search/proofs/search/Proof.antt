@@ -29,7 +29,8 @@ whole i tau h e o =
     (inward-same (trialAt i tau) (proposed i tau) 63 0)
     (o ∙ ap (λ (q : ℕ). counted 0 (outwardAt i tau q)) e)
 
-of-interval : (i : Initial) (tau : Seconds) (h : Anomaly) → eq (tau .0) n0 ≡ false → findingOf tau (counted 0 (historyAt i tau (placeOf (h .0)))) ≡ searchOf i tau h
+of-interval : (i : Initial) (tau : Seconds) (h : Anomaly) → eq (tau .0) n0 ≡ false
+    → findingOf tau (counted 0 (historyAt i tau (placeOf (h .0)))) ≡ searchOf i tau h
 unfolding searchOf
 of-interval i tau h e = sym (rw e)
 
@@ -49,7 +50,12 @@ enum-known-next c = search needs
 inward-requires : tie.Need-inward-requires
 inward-requires c κs =
     let a = c .before .before .before .before .before .before .before .args in
-    omega (arith, between-used _ _ _ (c .before .before .before .outward .ensures) (c .before .next .given .1), outward-points (trialAt (a .initial) (a .tau)) 41 (c .before .before .before .before .place-of .result) (endAt 0 (neg (a .tau .0))))
+    let o = c .before .before .before in
+    omega (
+      arith,
+      between-used _ _ _ (o .outward .ensures) (c .before .next .given .1),
+      outward-points (trialAt (a .initial) (a .tau)) 41 (o .before .place-of .result) (endAt 0 (neg (a .tau .0))),
+    )
 
 finding-of-requires : tie.Need-finding-of-requires
 finding-of-requires c κs = search needs
@@ -60,12 +66,13 @@ finding-of-requires-2 c κs = search needs
 returns-2 : tie.Need-returns-2
 returns-2 c =
     let a = c .before .before .before .before .before .before .before .before .before .args in
+    let o = c .before .before .before .before .before in
     c .finding-of .ensures
     ∙ ap (findingOf (a .tau))
     (c .before .inward .ensures
     ∙ ap (λ (y : Next). after y (inwardAt (a .initial) (a .tau))) (sym (c .before .before .before .next .given .1))
-    ∙ whole (a .initial) (a .tau) (a .h) (c .before .before .before .before .before .before .place-of .ensures) (c .before .before .before .before .before .outward .ensures))
-    ∙ of-interval (a .initial) (a .tau) (a .h) (c .before .before .before .before .before .before .before .if1 .left)
+    ∙ whole (a .initial) (a .tau) (a .h) (o .before .place-of .ensures) (o .outward .ensures))
+    ∙ of-interval (a .initial) (a .tau) (a .h) (o .before .before .if1 .left)
 
 returns-3 : tie.Need-returns-3
 returns-3 c =
