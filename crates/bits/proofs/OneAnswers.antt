@@ -10,6 +10,8 @@ use Rattle.bits.proofs.words.is_finite.Kinds as is-finite-kinds
 use Rattle.bits.proofs.words.is_finite.Reads as is-finite-reads
 use Rattle.bits.proofs.words.word_of.Kinds as word-of-kinds
 use Rattle.bits.proofs.words.word_of.Reads as word-of-reads
+use Rattle.bits.proofs.words.place_of.Kinds as place-of-kinds
+use Rattle.bits.proofs.words.place_of.Reads as place-of-reads
 use Rattle.bits.proofs.root.root_of.Kinds as root-of-kinds
 use Rattle.bits.proofs.root.root_of.Reads as root-of-reads
 use Rattle.bits.proofs.root.root_of_figure.Kinds as root-of-figure-kinds
@@ -26,6 +28,9 @@ is-finite-one κs a x y v w p q = (p ∙ sym q, refl)
 
 pub word-of-one : OneAnswer 0 word-of-kinds.ps word-of-kinds.r word-of-reads.Post
 word-of-one κs a x y v w p q = (p ∙ sym q, refl)
+
+pub place-of-one : OneAnswer 0 place-of-kinds.ps place-of-kinds.r place-of-reads.Post
+place-of-one κs a x y v w p q = (p ∙ sym q, refl)
 
 pub root-of-one : OneAnswer 0 root-of-kinds.ps root-of-kinds.r root-of-reads.Post
 root-of-one κs a x y v w p q =

@@ -50,3 +50,7 @@ units w = scaled (w / 2 ^ 52) (w % 2 ^ 52)
 -- The words of a run of doubles.
 abbrev pub wordsOf : List Float → List ℕ
 wordsOf xs = map (toBits binary64) xs
+
+-- "Its place is the bits of |ψ| read as a whole number."
+abbrev pub placeOf : Float → ℕ
+placeOf x = toBits binary64 x % 2 ^ 63

@@ -2,7 +2,7 @@
 ghost use mathlib.Core.Path.{_≡_};
 ghost use lib.Ieee.{binary64, toBits};
 ghost use Rattle.bits.specs.Arithmetic.{isFinite};
-ghost use Rattle.bits.specs.Words.{kindOf, figureOf};
+ghost use Rattle.bits.specs.Words.{kindOf, figureOf, placeOf};
 
 // The weight of a word's sign bit.
 pub const SIGN: u64 = 0x8000_0000_0000_0000;
@@ -60,4 +60,11 @@ pub fn word_of(x: f64) -> u64
         return 0x7ff8_0000_0000_0000;
     }
     f64::to_bits(x)
+}
+
+// The place of |x|: its bits as a whole number. A NaN has one of the places that are no number's.
+pub fn place_of(x: f64) -> u64
+    ensures { λ r. ⌜ r ≡ placeOf x ⌝ }
+{
+    word_of(x) % SIGN
 }

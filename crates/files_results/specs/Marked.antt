@@ -8,8 +8,8 @@ use Rattle.bits.specs.Root.{rootRefusalOf, rootWordOf, rootOf}
 use Rattle.series.specs.declared.figures.Coefficients.{Coefficients}
 use Rattle.series.specs.Series.{beyondOne, reducedFrom, nested, c4Of, c5Of, atReduced, doublings, quotientsOf, coefficientsOf, sumsOf}
 use Rattle.search_points.specs.Residual.{timeErrorOf, radiusOf}
-use Rattle.search_points.specs.Trial.{anomalyAt, sortOf, unevaluated, evaluatedAt, trialAt}
-use Rattle.search_rule.specs.History.{onward, outward, halving, round, inward, history, counted}
+use Rattle.search_points.specs.Trial.{anomalyAt, sortOf, evaluatedAt, trialAt}
+use Rattle.search_rule.specs.Rule.{onward, outward, halving, round, inward, history, counted}
 use Rattle.search.specs.Search.{searchOf}
 use Rattle.states_arcs.specs.Finite.{allFinite, anyZero}
 use Rattle.states_arcs.specs.Results.{factorsOf, endOf, arcOf, accelerationOf, resultsOf, divisorsOf, figuresOf, endedOf}
@@ -103,5 +103,5 @@ table =
 
 -- Each case of the table gives what it must.
 pub marked : map (λ (c : Case). given (c .asked)) table ≡ map (λ (c : Case). c .must) table
-unfolding resultFile readingOf rowsOf rowOf requestWords eightWords tauWord tauSince propagateOf answerWords reachedOf reachedOrbit reachedFrom reachedBy endedAnswer answered refused readOf firstNotFinite begunOf dot firstStepOf endedOf figuresOf resultsOf accelerationOf arcOf endOf factorsOf divisorsOf allFinite anyZero searchOf history inward round halving outward onward counted trialAt evaluatedAt unevaluated sortOf anomalyAt timeErrorOf radiusOf coefficientsOf sumsOf quotientsOf doublings atReduced c4Of c5Of nested reducedFrom beyondOne rootOf rootWordOf written add sub mul div neg lt eq ne ofBits toBits
+unfolding resultFile readingOf rowsOf rowOf requestWords eightWords tauWord tauSince propagateOf answerWords reachedOf reachedOrbit reachedFrom reachedBy endedAnswer answered refused readOf firstNotFinite begunOf dot firstStepOf endedOf figuresOf resultsOf accelerationOf arcOf endOf factorsOf divisorsOf allFinite anyZero searchOf history inward round halving outward onward counted trialAt evaluatedAt sortOf anomalyAt timeErrorOf radiusOf coefficientsOf sumsOf quotientsOf doublings atReduced c4Of c5Of nested reducedFrom beyondOne rootOf rootWordOf written add sub mul div neg lt eq ne ofBits toBits
 marked = refl

@@ -1,3 +1,3 @@
 -- Layer 3: the anomaly search, and what it promises its caller.
 pub mod Search
-pub mod Demand
+pub mod SearchPromise

@@ -1,42 +1,49 @@
--- The search of document 01: the rule's history at the time error's trial points and the three proposals.
+-- The search of document 01: the rule's history at the time error's trial points. It is written with any proposal; document 01's three are one instance.
 use Prim.Native.Nat.{ℕ}
 use mathlib.Core.List.{[]}
-use lib.Ieee.{Float, neg, eq}
+use lib.Ieee.{neg, eq}
 use Rattle.bits.specs.Choice.{pick}
 use Rattle.bits.specs.Arithmetic.{n0}
+use Rattle.bits.specs.Words.{placeOf}
 use Rattle.series.specs.declared.figures.Anomaly.{Anomaly}
 use Rattle.series.specs.declared.figures.Seconds.{Seconds}
 use Rattle.search_points.specs.declared.figures.Initial.{Initial}
-use Rattle.search.specs.declared.figures.Answer.{Answer}
-use Rattle.search.specs.declared.figures.Answer.the-variants as answer
+use Rattle.search_points.specs.Trial.{anomalyAt, trialAt}
 use Rattle.search_rule.specs.declared.pair.Pair.{Pair}
 use Rattle.search_rule.specs.declared.pair.Next.{Next}
 use Rattle.search_rule.specs.declared.pair.Next.the-variants.{Between, Exact, Unreadable, AllShort}
-use Rattle.search_points.specs.Trial.{placeOf, anomalyAt, trialAt}
-use Rattle.search_rule.specs.History.{History, inward, outward, history, counted}
+use Rattle.search_rule.specs.Rule.{Proposal, History, outwardPart, inward, history, counted}
 use Rattle.search_proposals.specs.Proposals.{threeProposals}
-
--- The parts of the history, from a point on at which nothing of what was tried before matters.
-abbrev pub inwardAt : Initial → Seconds → (left : ℕ) → Pair → History
-inwardAt i tau left s = inward (trialAt i tau) (threeProposals i tau) left 0 [] s
-
-abbrev pub outwardAt : Initial → Seconds → (k short : ℕ) → Float → ℕ → History
-outwardAt i tau k short error place = outward (trialAt i tau) k short error place
+use Rattle.search.specs.declared.figures.Finding.{Finding}
+use Rattle.search.specs.declared.figures.Finding.the-variants as finding
 
 -- The whole history, outward from the place of |H|. "Place 0 has R = −τ here."
+abbrev pub historyBy : Proposal → Initial → Seconds → (first : ℕ) → History
+historyBy pr i tau first = history (trialAt i tau) pr first (neg (tau .0))
+
 abbrev pub historyAt : Initial → Seconds → (first : ℕ) → History
-historyAt i tau first = history (trialAt i tau) (threeProposals i tau) first (neg (tau .0))
+historyAt i tau first = historyBy (threeProposals i tau) i tau first
+
+-- Its parts: outward; and inward from a pair, where nothing of what was tried before matters to document 01's proposals.
+abbrev pub outwardAt : Initial → Seconds → (first : ℕ) → History
+outwardAt i tau first = outwardPart (trialAt i tau) first (neg (tau .0))
+
+abbrev pub inwardAt : Initial → Seconds → Pair → History
+inwardAt i tau s = inward (trialAt i tau) (threeProposals i tau) 63 0 [] s
 
 -- "The found ψ is the exact point, or the short end."
-abbrev pub answerOf : Seconds → Next → Answer
-answerOf tau (Between s n) = answer.Found (anomalyAt tau (s .short)) n
-answerOf tau (Exact p n) = answer.Found (anomalyAt tau p) n
-answerOf tau (Unreadable n) = answer.Unreadable n
-answerOf tau (AllShort n) = answer.AllShort n
+abbrev pub findingOf : Seconds → Next → Finding
+findingOf tau (Between s n) = finding.Found (anomalyAt tau (s .short .place)) n
+findingOf tau (Exact p n) = finding.Found (anomalyAt tau p) n
+findingOf tau (Unreadable n) = finding.Unreadable n
+findingOf tau (AllShort n) = finding.AllShort n
 
 -- "If τ is either zero, ψ = +0 with no trial points."
-unfoldable pub searchOf : Initial → Seconds → (h : Anomaly) → Answer
-searchOf i tau h =
+abbrev pub searchBy : Proposal → Initial → Seconds → (h : Anomaly) → Finding
+searchBy pr i tau h =
     pick (eq (tau .0) n0)
-    (answer.Found (record { 0 = n0 }) 0)
-    (answerOf tau (counted 0 (historyAt i tau (placeOf (h .0)))))
+    (finding.Found (record { 0 = n0 }) 0)
+    (findingOf tau (counted 0 (historyBy pr i tau (placeOf (h .0)))))
+
+unfoldable pub searchOf : Initial → Seconds → (h : Anomaly) → Finding
+searchOf i tau h = searchBy (threeProposals i tau) i tau h

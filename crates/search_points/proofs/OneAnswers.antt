@@ -5,8 +5,6 @@ use Rattle.search_points.proofs.residual.time_error.Kinds as time-error
 use Rattle.search_points.proofs.residual.time_error.Reads as time-error-reads
 use Rattle.search_points.proofs.residual.radius.Kinds as radius-kinds
 use Rattle.search_points.proofs.residual.radius.Reads as radius-reads
-use Rattle.search_points.proofs.trial.place_of.Kinds as place-of-kinds
-use Rattle.search_points.proofs.trial.place_of.Reads as place-of-reads
 use Rattle.search_points.proofs.trial.anomaly_at.Kinds as anomaly-at-kinds
 use Rattle.search_points.proofs.trial.anomaly_at.Reads as anomaly-at-reads
 use Rattle.search_points.proofs.trial.try_at.Kinds as try-at-kinds
@@ -19,9 +17,6 @@ time-error-one κs a x y v w p q = (p ∙ sym q, refl)
 
 pub radius-one : OneAnswer 0 radius-kinds.ps radius-kinds.r radius-reads.Post
 radius-one κs a x y v w p q = (p ∙ sym q, refl)
-
-pub place-of-one : OneAnswer 0 place-of-kinds.ps place-of-kinds.r place-of-reads.Post
-place-of-one κs a x y v w p q = (p ∙ sym q, refl)
 
 pub anomaly-at-one : OneAnswer 0 anomaly-at-kinds.ps anomaly-at-kinds.r anomaly-at-reads.Post
 anomaly-at-one κs a x y v w p q = (p ∙ sym q, refl)

@@ -15,9 +15,8 @@ use Rattle.series.specs.declared.figures.FirstSums.{FirstSums}
 use Rattle.series.specs.declared.figures.Seconds.{Seconds}
 use Rattle.search_points.specs.declared.figures.Initial.{Initial}
 use Rattle.search_points.specs.declared.figures.Sort.the-variants.{Short, Past, Exact, Unreadable}
-use Rattle.search_points.specs.declared.trial.Trial.{Trial}
-use Rattle.search_points.specs.Residual.{timeErrorOf}
-use Rattle.search_points.specs.Trial.{anomalyAt, sortOf, unevaluated, evaluatedAt, trialAt}
+use Rattle.search_points.specs.declared.figures.Trial.{Trial}
+use Rattle.search_points.specs.Trial.{anomalyAt, sortOf, unevaluated, trialOf, evaluatedAt, trialAt}
 
 -- ---- A word with its sign bit set is the negative of the word without it.
 neg-odd : (d : ℕ) (q k l : ℕ) → odd d true q k l ≡ neg (odd d false q k l)
@@ -34,7 +33,8 @@ neg-fields (suc x) t = by-test (eqb (suc x) 2047)
     special true = refl
     special false = refl
 
-    by-test : (b : Bool) → cond b (cond (eqb t 0) (inf true) nan) (odd 53 true (2 ^ 52 + t) x 1074) ≡ neg (cond b (cond (eqb t 0) (inf false) nan) (odd 53 false (2 ^ 52 + t) x 1074))
+    by-test : (b : Bool) → cond b (cond (eqb t 0) (inf true) nan) (odd 53 true (2 ^ 52 + t) x 1074)
+        ≡ neg (cond b (cond (eqb t 0) (inf false) nan) (odd 53 false (2 ^ 52 + t) x 1074))
     by-test true = special (eqb t 0)
     by-test false = neg-odd 53 (2 ^ 52 + t) x 1074
 
@@ -135,9 +135,9 @@ module _ (tau : Seconds) (x : Float) where
 module _ (i : Initial) (tau : Seconds) (psi : Anomaly) where
   pub finite-point : (f : FirstSums) {r : Trial} → isFinite (firstL (i .alpha) psi) ≡ true
       → f ≡ record { c0 = coefficientsOf (i .alpha) psi .c0; sums = sumsOf psi (coefficientsOf (i .alpha) psi) }
-      → r ≡ record { sort = sortOf tau (timeErrorOf i tau (f .sums)); c0 = f .c0; s1 = f .sums .s1; s2 = f .sums .s2 } → r ≡ evaluatedAt i tau psi
+      → r ≡ trialOf i tau (f .c0) (f .sums) → r ≡ evaluatedAt i tau psi
   unfolding evaluatedAt
-  finite-point f h e g = simp h (g ∙ ap (λ (x : FirstSums). record { sort = sortOf tau (timeErrorOf i tau (x .sums)); c0 = x .c0; s1 = x .sums .s1; s2 = x .sums .s2 }) e)
+  finite-point f h e g = simp h (g ∙ ap (λ (x : FirstSums). trialOf i tau (x .c0) (x .sums)) e)
 
   pub no-point : {r : Trial} → isFinite (firstL (i .alpha) psi) ≡ false → r ≡ unevaluated Unreadable → r ≡ evaluatedAt i tau psi
   unfolding evaluatedAt
@@ -157,6 +157,7 @@ pub above-zero : (i : Initial) (tau : Seconds) (place : ℕ) → 0 < place → e
 unfolding trialAt
 above-zero i tau place h = rw (ne-eqb place 0 (λ e. omega arith)) (by-test (leb infinity place) refl)
   where
-    by-test : (b : Bool) → leb infinity place ≡ b → evaluatedAt i tau (anomalyAt tau place) ≡ pick b (unevaluated Unreadable) (evaluatedAt i tau (anomalyAt tau place))
+    by-test : (b : Bool) → leb infinity place ≡ b
+        → evaluatedAt i tau (anomalyAt tau place) ≡ pick b (unevaluated Unreadable) (evaluatedAt i tau (anomalyAt tau place))
     by-test true e = beyond i tau place e
     by-test false e = refl

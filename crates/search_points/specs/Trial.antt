@@ -1,24 +1,19 @@
 -- One trial point (document 01, "The search"): a place, its anomaly, and its sort.
-use Prim.Native.Nat.{ℕ, _%_, _^_}
+use Prim.Native.Nat.{ℕ}
 use lib.Dec.{leb, eqb}
-use lib.Ieee.{Float, nan, binary64, neg, lt, eq, ne, ofBits, toBits}
+use lib.Ieee.{Float, nan, binary64, neg, lt, eq, ne, ofBits}
 use Rattle.bits.specs.Choice.{pick}
 use Rattle.bits.specs.Arithmetic.{n0, isFinite}
 use Rattle.bits.specs.Words.{infinity}
 use Rattle.series.specs.Series.{firstL, coefficientsOf, sumsOf}
 use Rattle.series.specs.declared.figures.Anomaly.{Anomaly}
 use Rattle.series.specs.declared.figures.Seconds.{Seconds}
-use Rattle.series.specs.declared.figures.Coefficients.{Coefficients}
 use Rattle.series.specs.declared.figures.Sums.{Sums}
 use Rattle.search_points.specs.declared.figures.Initial.{Initial}
 use Rattle.search_points.specs.declared.figures.Sort.{Sort}
 use Rattle.search_points.specs.declared.figures.Sort.the-variants.{Short, Past, Exact, Unreadable}
-use Rattle.search_points.specs.declared.trial.Trial.{Trial}
-use Rattle.search_points.specs.Residual.{timeErrorOf}
-
--- "Its place is the bits of |ψ| read as a whole number."
-abbrev pub placeOf : Float → ℕ
-placeOf x = toBits binary64 x % 2 ^ 63
+use Rattle.search_points.specs.declared.figures.Trial.{Trial}
+use Rattle.search_points.specs.Residual.{timeErrorOf, termsOf}
 
 -- "ψ has the sign of τ." The places from 2047·2^52 on are no finite double's.
 unfoldable pub anomalyAt : Seconds → ℕ → Anomaly
@@ -34,20 +29,18 @@ sortOf tau error =
     (Past error)))
 
 -- A point sorted without an evaluation has no radius; nothing asks for it there.
-unfoldable pub unevaluated : Sort → Trial
-unevaluated sort = record { sort = sort; c0 = n0; s1 = n0; s2 = n0 }
+abbrev pub unevaluated : Sort → Trial
+unevaluated sort = record { sort = sort; terms = record { c0 = n0; s1 = n0; s2 = n0 } }
 
--- The point of ψ, with what its radius is made of. "L not finite": unreadable.
-abbrev pub trialOf : Seconds → Float → Coefficients → Sums → Trial
-trialOf tau error c s = record { sort = sortOf tau error; c0 = c .c0; s1 = s .s1; s2 = s .s2 }
+-- The point of ψ by its c0 and its sums, with what its radius is made of.
+abbrev pub trialOf : Initial → Seconds → (c0 : Float) → Sums → Trial
+trialOf i tau c0 s = record { sort = sortOf tau (timeErrorOf i tau s); terms = termsOf c0 s }
 
-abbrev pub trialFrom : Initial → Seconds → Coefficients → Sums → Trial
-trialFrom i tau c s = trialOf tau (timeErrorOf i tau s) c s
-
+-- "L not finite": unreadable.
 unfoldable pub evaluatedAt : Initial → Seconds → Anomaly → Trial
 evaluatedAt i tau psi =
     pick (isFinite (firstL (i .alpha) psi))
-    (trialFrom i tau (coefficientsOf (i .alpha) psi) (sumsOf psi (coefficientsOf (i .alpha) psi)))
+    (trialOf i tau (coefficientsOf (i .alpha) psi .c0) (sumsOf psi (coefficientsOf (i .alpha) psi)))
     (unevaluated Unreadable)
 
 -- "Each trial point is sorted in this order: place 0 is short; ψ or L not finite, or R NaN: unreadable; .." Place 0 has R = −τ.

@@ -2,3 +2,13 @@
 pub mod figures;
 pub mod residual;
 pub mod trial;
+
+pub use figures::Initial;
+pub use figures::Sort;
+pub use figures::Terms;
+pub use figures::Trial;
+pub use residual::radius;
+pub use residual::time_error;
+pub use trial::anomaly_at;
+pub use trial::try_at;
+pub use trial::try_inner;

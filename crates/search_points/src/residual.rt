@@ -2,6 +2,7 @@
 ghost use mathlib.Core.Path.{_≡_};
 ghost use Rattle.search_points.specs.Residual.{timeErrorOf, radiusOf};
 use super::figures::Initial;
+use super::figures::Terms;
 use series::Seconds;
 use series::Sums;
 
@@ -12,9 +13,9 @@ pub fn time_error(initial: Initial, tau: Seconds, s: Sums) -> f64
     ((initial.r0 * s.s1 + initial.sigma0 * s.s2) + initial.mu * s.s3) - tau.0
 }
 
-// r, the radius (km) at the anomaly whose coefficient is c0 and whose first two sums are s1 and s2.
-pub fn radius(initial: Initial, c0: f64, s1: f64, s2: f64) -> f64
-    ensures { λ r. ⌜ r ≡ radiusOf initial c0 s1 s2 ⌝ }
+// r, the radius (km) at the anomaly whose c0, s1 and s2 are t.
+pub fn radius(initial: Initial, t: Terms) -> f64
+    ensures { λ r. ⌜ r ≡ radiusOf initial t ⌝ }
 {
-    (initial.r0 * c0 + initial.sigma0 * s1) + initial.mu * s2
+    (initial.r0 * t.c0 + initial.sigma0 * t.s1) + initial.mu * t.s2
 }

@@ -5,10 +5,11 @@ ghost use lib.Ieee.{lt, eq};
 ghost use Rattle.bits.specs.Choice.{pick};
 ghost use Rattle.bits.specs.Arithmetic.{n0};
 ghost use Rattle.search_points.specs.declared.figures.Sort.the-variants.{Exact, Unreadable};
-ghost use Rattle.search_points.specs.Residual.{timeErrorOf};
-ghost use Rattle.search_points.specs.Trial.{placeOf, anomalyAt, sortOf, unevaluated, evaluatedAt, trialAt};
+ghost use Rattle.search_points.specs.Trial.{anomalyAt, sortOf, unevaluated, trialOf, evaluatedAt, trialAt};
 use super::figures::Initial;
 use super::figures::Sort;
+use super::figures::Terms;
+use super::figures::Trial;
 use super::residual;
 use bits::words::SIGN;
 use series::Anomaly;
@@ -17,21 +18,6 @@ use series::Sums;
 
 // The first place that is no finite double's: 2047 * 2^52.
 pub const NOT_FINITE: u64 = 0x7ff0_0000_0000_0000;
-
-// What one trial point gives: its sort, and the three figures that the radius there is made of.
-pub struct Trial {
-    pub sort: Sort,
-    pub c0: f64,
-    pub s1: f64,
-    pub s2: f64,
-}
-
-// The place of |x|: its bits as a whole number. A NaN has one of the places that are no number's.
-pub fn place_of(x: f64) -> u64
-    ensures { λ r. ⌜ r ≡ placeOf x ⌝ }
-{
-    bits::words::word_of(x) % SIGN
-}
 
 // What the sign of tau adds to a word.
 fn sign_of(tau: Seconds) -> u64
@@ -88,21 +74,25 @@ fn unevaluated_as(sort: Sort) -> Trial
 {
     Trial {
         sort,
-        c0: 0.0,
-        s1: 0.0,
-        s2: 0.0,
+        terms: Terms {
+            c0: 0.0,
+            s1: 0.0,
+            s2: 0.0,
+        },
     }
 }
 
 // The point whose c0 and sums are given.
 fn point_of(initial: Initial, tau: Seconds, c0: f64, s: Sums) -> Trial
-    ensures { λ r. ⌜ r ≡ record { sort = sortOf tau (timeErrorOf initial tau s); c0 = c0; s1 = s .s1; s2 = s .s2 } ⌝ }
+    ensures { λ r. ⌜ r ≡ trialOf initial tau c0 s ⌝ }
 {
     Trial {
         sort: sort_of(tau, residual::time_error(initial, tau, s)),
-        c0,
-        s1: s.s1,
-        s2: s.s2,
+        terms: Terms {
+            c0,
+            s1: s.s1,
+            s2: s.s2,
+        },
     }
 }
 

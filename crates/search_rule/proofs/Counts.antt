@@ -7,19 +7,22 @@ use native.Mathlib.Omega.{arith}
 use lib.ListN.{length}
 use lib.Ieee.{Float}
 use Rattle.bits.specs.Choice.{pick}
+use Rattle.search_rule.specs.declared.pair.End.{End}
 use Rattle.search_rule.specs.declared.pair.Pair.{Pair}
 use Rattle.search_rule.specs.declared.pair.Next.{Next}
 use Rattle.search_rule.specs.declared.pair.Next.the-variants as next
-use Rattle.search_rule.specs.History.{Point, Trials, Proposal, End, between, exact, unreadable, allShort, History, tries, ends, pointsIn, endOf, onward, Outward, on, stop, outwardStep, goingOn, outward, attempt, isWide, halfway, halving, isInside, round, inward, history, ended, counted}
+use Rattle.search_rule.specs.Rule.{Point, Trials, Proposal, Ending, between, exact, unreadable, allShort, History, tries, ends, pointsIn, endingOf}
+use Rattle.search_rule.specs.Rule.{Part, onward, endAt, Outward, on, stop, outwardStep, goingOn, outward, outwardPart, attempt, isWide, halfway}
+use Rattle.search_rule.specs.Rule.{halving, isInside, round, inward, history, nextOf, counted}
 
 abbrev pub points : History → ℕ
 points h = length (pointsIn h)
 
--- ---- The count that the code keeps is the history's length.
-pub counted-is : (n : ℕ) (h : History) → counted n h ≡ ended (n + points h) (endOf h)
-unfolding counted pointsIn endOf
-counted-is n (tries p h) = counted-is (n + 1) h ∙ ap (λ (k : ℕ). ended k (endOf h)) (omega arith)
-counted-is n (ends e) = ap (λ (k : ℕ). ended k e) (omega arith)
+-- ---- The count that the code keeps is the number of the history's points.
+pub counted-is : (n : ℕ) (h : History) → counted n h ≡ nextOf (n + points h) (endingOf h)
+unfolding counted pointsIn endingOf
+counted-is n (tries p h) = counted-is (n + 1) h ∙ ap (λ (k : ℕ). nextOf k (endingOf h)) (omega arith)
+counted-is n (ends e) = ap (λ (k : ℕ). nextOf k e) (omega arith)
 
 abbrev pub used : Next → ℕ
 used (next.Between s n) = n
@@ -27,21 +30,22 @@ used (next.Exact p n) = n
 used (next.Unreadable n) = n
 used (next.AllShort n) = n
 
-used-ended : (n : ℕ) (e : End) → used (ended n e) ≡ n
-used-ended n (between s) = refl
-used-ended n (exact p) = refl
-used-ended n unreadable = refl
-used-ended n allShort = refl
+used-next : (n : ℕ) (e : Ending) → used (nextOf n e) ≡ n
+used-next n (between s) = refl
+used-next n (exact p) = refl
+used-next n unreadable = refl
+used-next n allShort = refl
 
 pub used-is : (n : ℕ) (h : History) → used (counted n h) ≡ n + points h
-used-is n h = ap used (counted-is n h) ∙ used-ended (n + points h) (endOf h)
+used-is n h = ap used (counted-is n h) ∙ used-next (n + points h) (endingOf h)
 
 -- ---- The parts of a history.
 pick-points : (b : Bool) (x y : History) (k : ℕ) → points x ≤ k → points y ≤ k → points (pick b x y) ≤ k
 pick-points true x y k h g = h
 pick-points false x y k h g = g
 
-pub onward-points : (k : ℕ) (tried : List Point) (h : History) (f : List Point → Pair → History) → ((l : List Point) (s : Pair) → points (f l s) ≤ k) → points (onward tried h f) ≤ points h + k
+pub onward-points : (k : ℕ) (tried : List Point) (h : History) (f : Part) → ((l : List Point) (s : Pair) → points (f l s) ≤ k)
+    → points (onward tried h f) ≤ points h + k
 unfolding pointsIn onward
 onward-points k tried (tries p h) f g = omega (arith, onward-points k (tried ++ (p ∷ [])) h f g)
 onward-points k tried (ends (between s)) f g = omega (arith, g tried s)
@@ -54,16 +58,16 @@ module _ (ev : Trials) where
   unfolding pointsIn halving
   halving-points s = pick-points (isWide s) (attempt ev s (halfway s)) (ends (between s)) 1 (omega arith) (omega arith)
 
-  on-points : (o : Outward) (f : Float → History) (k : ℕ) → ((r : Float) → points (f r) ≤ k) → points (goingOn o f) ≤ k
+  on-points : (o : Outward) (f : End → History) (k : ℕ) → ((short : End) → points (f short) ≤ k) → points (goingOn o f) ≤ k
   unfolding pointsIn
-  on-points (on r) f k h = h r
+  on-points (on short) f k h = h short
   on-points (stop e) f k h = omega arith
 
-  pub outward-points : (k short : ℕ) (error : Float) (place : ℕ) → points (outward ev k short error place) ≤ k
+  pub outward-points : (k place : ℕ) (short : End) → points (outward ev k place short) ≤ k
   unfolding pointsIn outward
-  outward-points zero short error place = omega arith
-  outward-points (suc k) short error place =
-      omega (arith, on-points (outwardStep short error place (ev place)) (λ r. outward ev k place r (place + 2 ^ 52)) k (λ r. outward-points k place r (place + 2 ^ 52)))
+  outward-points zero place short = omega arith
+  outward-points (suc k) place short =
+      omega (arith, on-points (outwardStep short place (ev place)) (outward ev k (place + 2 ^ 52)) k (outward-points k (place + 2 ^ 52)))
 
   module _ (pr : Proposal) where
     pub round-points : (k : ℕ) (tried : List Point) (s : Pair) → points (round ev pr k tried s) ≤ 2
@@ -86,4 +90,4 @@ module _ (ev : Trials) where
     pub history-points : (first : ℕ) (error : Float) → points (history ev pr first error) ≤ 167
     unfolding history
     history-points first error =
-        omega (arith, onward-points 126 [] (outward ev 41 0 error first) (inward ev pr 63 0) (inward-points 63 0), outward-points 41 0 error first)
+        omega (arith, onward-points 126 [] (outwardPart ev first error) (inward ev pr 63 0) (inward-points 63 0), outward-points 41 first (endAt 0 error))

@@ -1,8 +1,8 @@
 -- Each public function leaves one answer open: each promise names its answer.
 use mathlib.Core.Path.{refl, sym, _∙_}
 use Rattle.bits.specs.OneAnswer.{OneAnswer}
-use Rattle.search_rule.proofs.pair.is_wide.Kinds as is-wide-kinds
-use Rattle.search_rule.proofs.pair.is_wide.Reads as is-wide-reads
+use Rattle.search_rule.proofs.pair.Pair.is_wide.Kinds as is-wide-kinds
+use Rattle.search_rule.proofs.pair.Pair.is_wide.Reads as is-wide-reads
 use Rattle.search_rule.proofs.pair.moved_by.Kinds as moved-by-kinds
 use Rattle.search_rule.proofs.pair.moved_by.Reads as moved-by-reads
 use Rattle.search_rule.proofs.pair.step_by.Kinds as step-by-kinds

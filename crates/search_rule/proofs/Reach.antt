@@ -10,28 +10,30 @@ use native.Mathlib.Omega.{arith}
 use lib.Ieee.{Float}
 use Rattle.search_points.specs.declared.figures.Sort.{Sort}
 use Rattle.search_points.specs.declared.figures.Sort.the-variants.{Short, Past, Exact, Unreadable}
-use Rattle.search_points.specs.declared.trial.Trial.{Trial}
+use Rattle.search_points.specs.declared.figures.Trial.{Trial}
+use Rattle.search_rule.specs.declared.pair.End.{End}
 use Rattle.search_rule.specs.declared.pair.Pair.{Pair}
-use Rattle.search_rule.specs.History.{Trials, Proposal, End, between, exact, unreadable, allShort, History, endOf, outwardBy, goingOn, outward, movedBy, moved, inward, history}
-use Rattle.search_rule.specs.Demand.{IsShort, outPoint, Sorts, FirstNotShort, ReadableUpTo, IsFound, Finds}
-use Rattle.search_rule.proofs.Rounds.{Within, onward-within, inward-within}
+use Rattle.search_rule.specs.Rule.{Trials, Proposal, Ending, between, exact, unreadable, allShort, History, endingOf, endAt, outwardBy, goingOn}
+use Rattle.search_rule.specs.Rule.{outward, outwardPart, movedBy, moved, inward, history}
+use Rattle.search_rule.specs.RulePromise.{IsShort, outPoint, Sorts, FirstNotShort, ReadableUpTo, IsShortEnd, IsPastEnd, IsFound, Finds}
+use Rattle.search_rule.proofs.Rounds.{NoWider, onward-no-wider, inward-no-wider}
 
 -- A pair that holds: its ends are what it says, in order, and not beyond the first outward point that isn't short.
 pub record Held (ev : Trials) (top : ℕ) (s : Pair) : Type 0 where
-  pub short-is : ev (s .short) .sort ≡ Short (s .«short_error»)
-  pub past-is : ev (s .past) .sort ≡ Past (s .«past_error»)
-  pub order : s .short < s .past
-  pub inside : s .past ≤ top
+  pub short-is : IsShortEnd ev (s .short)
+  pub past-is : IsPastEnd ev (s .past)
+  pub order : s .short .place < s .past .place
+  pub inside : s .past .place ≤ top
 
 -- What an end says of the places up to that point.
-abbrev pub Reached : Trials → ℕ → End → Type 0
+abbrev pub Reached : Trials → ℕ → Ending → Type 0
 Reached ev top (between s) = Held ev top s
 Reached ev top (exact p) = (ev p .sort ≡ Exact) × (p ≤ top)
 Reached ev top unreadable = (p : ℕ) × (ev p .sort ≡ Unreadable) × (p ≤ top)
 Reached ev top allShort = ⊥
 
 -- A point that is tried between the ends of a pair that holds leaves such a pair, or ends the search.
-moved-reached : (ev : Trials) (top : ℕ) (s : Pair) (p : ℕ) → Held ev top s → s .short < p → p < s .past → Reached ev top (moved s p (ev p))
+moved-reached : (ev : Trials) (top : ℕ) (s : Pair) (p : ℕ) → Held ev top s → s .short .place < p → p < s .past .place → Reached ev top (moved s p (ev p))
 moved-reached ev top s p h lo hi = go (ev p .sort) refl
   where
     go : (v : Sort) → ev p .sort ≡ v → Reached ev top (movedBy v s p (ev p))
@@ -48,55 +50,56 @@ pub outPoint-suc : (place k : ℕ) → outPoint place (suc k) ≡ outPoint (plac
 outPoint-suc place k = omega arith
 
 -- A short outward point goes on from its own error.
-pub on-short : (v : Sort) (short : ℕ) (error : Float) (place : ℕ) (t : Trial) (next : Float → History) → IsShort v → (r : Float) × (v ≡ Short r) × (goingOn (outwardBy v short error place t) next ≡ next r)
-on-short (Short r) short error place t next h = (r, refl, refl)
-on-short (Past r) short error place t next h = absurd h
-on-short Exact short error place t next h = absurd h
-on-short Unreadable short error place t next h = absurd h
+pub on-short : (v : Sort) (short : End) (place : ℕ) (t : Trial) (next : End → History) → IsShort v
+    → (r : Float) × (v ≡ Short r) × (goingOn (outwardBy v short place t) next ≡ next (endAt place r))
+on-short (Short r) short place t next h = (r, refl, refl)
+on-short (Past r) short place t next h = absurd h
+on-short Exact short place t next h = absurd h
+on-short Unreadable short place t next h = absurd h
 
 module _ (ev : Trials) where
   -- After a short point, at or before it, an outward point that isn't short is a past one above it, or ends the search.
-  stop-reached : (short : ℕ) (error : Float) (place : ℕ) (next : Float → History) → ev short .sort ≡ Short error → short ≤ place → (IsShort (ev place .sort) → ⊥)
-      → Reached ev place (endOf (goingOn (outwardBy (ev place .sort) short error place (ev place)) next))
-  unfolding endOf
-  stop-reached short error place next hs l ns = go (ev place .sort) refl
+  stop-reached : (short : End) (place : ℕ) (next : End → History) → IsShortEnd ev short → short .place ≤ place → (IsShort (ev place .sort) → ⊥)
+      → Reached ev place (endingOf (goingOn (outwardBy (ev place .sort) short place (ev place)) next))
+  unfolding endingOf
+  stop-reached short place next hs l ns = go (ev place .sort) refl
     where
-      apart : short ≡ place → ⊥
+      apart : short .place ≡ place → ⊥
       apart e = ns (subst IsShort (sym hs ∙ ap (λ (n : ℕ). ev n .sort) e) tt)
 
-      below : short < place
+      below : short .place < place
       below = omega (arith, apart)
 
-      go : (v : Sort) → ev place .sort ≡ v → Reached ev place (endOf (goingOn (outwardBy v short error place (ev place)) next))
+      go : (v : Sort) → ev place .sort ≡ v → Reached ev place (endingOf (goingOn (outwardBy v short place (ev place)) next))
       go (Short r) e = absurd (ns (subst IsShort (sym e) tt))
       go (Past r) e = record { short-is = hs; past-is = e; order = below; inside = le-refl place }
       go Exact e = (e, omega arith)
       go Unreadable e = (place, e, omega arith)
 
-  outward-reached : (k n short : ℕ) (error : Float) (place : ℕ) → ev short .sort ≡ Short error → short ≤ place → FirstNotShort ev place n k
-      → Reached ev (outPoint place k) (endOf (outward ev n short error place))
-  unfolding endOf outward
-  outward-reached k zero short error place hs l f = absurd (omega arith)
-  outward-reached zero (suc n) short error place hs l f =
+  outward-reached : (k n place : ℕ) (short : End) → IsShortEnd ev short → short .place ≤ place → FirstNotShort ev place n k
+      → Reached ev (outPoint place k) (endingOf (outward ev n place short))
+  unfolding endingOf outward
+  outward-reached k zero place short hs l f = absurd (omega arith)
+  outward-reached zero (suc n) place short hs l f =
       let e = outPoint-zero place in
-      rw e (stop-reached short error place (λ r. outward ev n place r (place + 2 ^ 52)) hs l (rw e at (f .not-short)))
-  outward-reached (suc k) (suc n) short error place hs l f =
-      let o = on-short (ev place .sort) short error place (ev place) (λ r. outward ev n place r (place + 2 ^ 52)) (rw (outPoint-zero place) at (f .shorts 0 (omega arith))) in
+      rw e (stop-reached short place (outward ev n (place + 2 ^ 52)) hs l (rw e at (f .not-short)))
+  outward-reached (suc k) (suc n) place short hs l f =
+      let o = on-short (ev place .sort) short place (ev place) (outward ev n (place + 2 ^ 52)) (rw (outPoint-zero place) at (f .shorts 0 (omega arith))) in
       let rest : FirstNotShort ev (place + 2 ^ 52) n k =
       record {
         among = omega (arith, f .among);
         shorts = λ i li. rw (← outPoint-suc place i) (f .shorts (suc i) (omega arith));
         not-short = rw (outPoint-suc place k) at (f .not-short);
       } in
-      rw (o .2, outPoint-suc place k) (outward-reached k n place (o .0) (place + 2 ^ 52) (o .1) (omega arith) rest)
+      rw (o .2, outPoint-suc place k) (outward-reached k n (place + 2 ^ 52) (endAt place (o .0)) (o .1) (omega arith) rest)
 
 -- ---- The whole search.
 module _ (ev : Trials) (pr : Proposal) (first : ℕ) (error : Float) (sorts : Sorts ev error) where
   -- A pair that holds is narrower than 2 ^ 63 places, since no place from there on is readable.
-  narrow : (top : ℕ) (e : End) → Reached ev top e → Within (Reached ev top) (2 ^ 63) e
+  narrow : (top : ℕ) (e : Ending) → Reached ev top e → NoWider (Reached ev top) (2 ^ 63) e
   narrow top (between s) x =
-      elim (decLe (2 ^ 63) (s .past)) [
-        | yes l ↦ absurd (let z : _≡_ {A = ℕ} 0 1 = cc (sorts .top-unreadable (s .past) l, x .past-is) in omega arith)
+      elim (decLe (2 ^ 63) (s .past .place)) [
+        | yes l ↦ absurd (let z : _≡_ {A = ℕ} 0 1 = cc (sorts .top-unreadable (s .past .place) l, x .past-is) in omega arith)
         | no l ↦ (x, omega arith)
       ]
   narrow top (exact p) x = x
@@ -104,25 +107,25 @@ module _ (ev : Trials) (pr : Proposal) (first : ℕ) (error : Float) (sorts : So
   narrow top allShort x = x
 
   -- Where some outward point isn't short, the search ends with neighbours, at an exact point or at an unreadable one, none of them beyond that point.
-  pub history-reached : (k : ℕ) → FirstNotShort ev first 41 k → Within (Reached ev (outPoint first k)) 1 (endOf (history ev pr first error))
+  pub history-reached : (k : ℕ) → FirstNotShort ev first 41 k → NoWider (Reached ev (outPoint first k)) 1 (endingOf (history ev pr first error))
   unfolding history
   history-reached k f =
       let top = outPoint first k in
-      onward-within (Reached ev top) (2 ^ 63) 1 [] (outward ev 41 0 error first) (inward ev pr 63 0)
-      (narrow top (endOf (outward ev 41 0 error first)) (outward-reached ev k 41 0 error first (sorts .zero-short) (omega arith) f))
-      (λ tried s h w. inward-within (Reached ev top) ev (moved-reached ev top) pr 63 0 tried s 0 h w)
+      onward-no-wider (Reached ev top) (2 ^ 63) 1 [] (outwardPart ev first error) (inward ev pr 63 0)
+      (narrow top (endingOf (outwardPart ev first error)) (outward-reached ev k 41 first (endAt 0 error) (sorts .zero-short) (omega arith) f))
+      (λ tried s h w. inward-no-wider (Reached ev top) ev (moved-reached ev top) pr 63 0 tried s 0 h w)
 
 -- Neighbours and exact points are anomalies; else a point up to that one is unreadable.
-pub found : (ev : Trials) (top : ℕ) (e : End) → Within (Reached ev top) 1 e → IsFound ev e ⊎ ((e ≡ unreadable) × (ReadableUpTo ev top → ⊥))
+pub found : (ev : Trials) (top : ℕ) (e : Ending) → NoWider (Reached ev top) 1 e → IsFound ev e ⊎ ((e ≡ unreadable) × (ReadableUpTo ev top → ⊥))
 found ev top (between s) x =
     let h = x .0 in
-    let next : s .past ≡ s .short + 1 = omega (arith, h .order, x .1) in
-    inl (h .short-is, rw next at (h .past-is), next)
+    inl (h .short-is, h .past-is, omega (arith, h .order, x .1))
 found ev top (exact p) x = inl (x .0)
 found ev top unreadable x = inr (refl, λ r. r (x .0) (x .2) (x .1))
 found ev top allShort x = absurd x
 
 -- Demand 3.
 pub finds : Finds
-finds ev pr first k error sorts f readable =
-    ⊎-elim (λ x. x) (λ u. absurd (u .1 readable)) (found ev (outPoint first k) (endOf (history ev pr first error)) (history-reached ev pr first error sorts k f))
+finds ev pr first error sorts f =
+    ⊎-elim (λ x. x) (λ u. absurd (u .1 (f .readable)))
+    (found ev (outPoint first (f .k)) (endingOf (history ev pr first error)) (history-reached ev pr first error sorts (f .k) (f .first-not-short)))

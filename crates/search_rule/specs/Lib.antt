@@ -1,3 +1,3 @@
 -- Layer 3, its rule: over any points and any proposals; then what it promises.
-pub mod History
-pub mod Demand
+pub mod Rule
+pub mod RulePromise

@@ -1,2 +1,9 @@
 // Layer 3, its rule: the pair of places and what a tried point makes of it, over any trial points and any proposals (document 01, "The search").
 pub mod pair;
+
+pub use pair::End;
+pub use pair::Next;
+pub use pair::Pair;
+pub use pair::Step;
+pub use pair::moved_by;
+pub use pair::step_by;

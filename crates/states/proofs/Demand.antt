@@ -12,7 +12,7 @@ use Rattle.bits.specs.Choice.{pick}
 use Rattle.bits.specs.Words.{wordsOf}
 use Rattle.search.specs.Search.{searchOf}
 use Rattle.search_points.specs.Trial.{anomalyAt}
-use Rattle.search.specs.declared.figures.Answer.{Answer as Found}
+use Rattle.search.specs.declared.figures.Finding.{Finding}
 use Rattle.search.proofs.Instance.{demand3}
 use Rattle.states_arcs.specs.Results.{arcOf, resultsOf, endedOf}
 use Rattle.states_arcs.specs.declared.figures.Arc.{Arc}
@@ -89,7 +89,7 @@ unchanged-or-answer words run = length-kept (eqb (length run) 36) (reachedOf wor
 -- ---- Demand 3
 
 -- Where the search found ψ, the call goes on from its arc.
-reaches : (words : List ℕ) (s : Searches words) {x : Found} → searchOf (s .initial) (s .orbit .tau) (firstStepOf (s .initial) (s .orbit .tau)) ≡ x
+reaches : (words : List ℕ) (s : Searches words) {x : Finding} → searchOf (s .initial) (s .orbit .tau) (firstStepOf (s .initial) (s .orbit .tau)) ≡ x
     → reachedOf words ≡ reachedBy (s .initial) (s .orbit .state) (s .orbit .tau) x
 unfolding reachedOf reachedOrbit reachedFrom
 reaches words s e =

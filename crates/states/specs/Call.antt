@@ -8,8 +8,8 @@ use Rattle.bits.specs.Words.{wordsOf}
 use Rattle.series.specs.declared.figures.Seconds.{Seconds}
 use Rattle.search.specs.Search.{searchOf}
 use Rattle.search_points.specs.declared.figures.Initial.{Initial}
-use Rattle.search.specs.declared.figures.Answer.{Answer as Found}
-use Rattle.search.specs.declared.figures.Answer.the-variants as found
+use Rattle.search.specs.declared.figures.Finding.{Finding}
+use Rattle.search.specs.declared.figures.Finding.the-variants as finding
 use Rattle.states_arcs.specs.Results.{arcOf, figuresOf, endedOf}
 use Rattle.states_arcs.specs.declared.figures.Vector.{Vector}
 use Rattle.states_arcs.specs.declared.figures.State.{State}
@@ -47,10 +47,10 @@ unfoldable pub answered : (points : ℕ) → Results → Answer
 answered points results = record { refusal = 0; points = points; results = results }
 
 -- Refusal 5: "all 41 outward points are short"; 6: "a point that the search tries is unreadable"; both with the points used so far. Else the arc of the found ψ.
-unfoldable pub reachedBy : Initial → State → Seconds → Found → Reached
-reachedBy i s tau (found.Found psi n) = reached.End (arcOf i tau psi s) n
-reachedBy i s tau (found.AllShort n) = reached.Refused 5 n
-reachedBy i s tau (found.Unreadable n) = reached.Refused 6 n
+unfoldable pub reachedBy : Initial → State → Seconds → Finding → Reached
+reachedBy i s tau (finding.Found psi n) = reached.End (arcOf i tau psi s) n
+reachedBy i s tau (finding.AllShort n) = reached.Refused 5 n
+reachedBy i s tau (finding.Unreadable n) = reached.Refused 6 n
 
 -- Refusal 4 by H; then the search.
 unfoldable pub reachedFrom : Initial → State → Seconds → Reached

@@ -7,9 +7,10 @@ use Prim.Native.Nat.{ℕ, _≤_}
 use lib.Ieee.{eq}
 use lib.ListN.{length}
 use Rattle.bits.specs.Arithmetic.{n0, isFinite}
-use Rattle.search_points.specs.Trial.{placeOf, anomalyAt, trialAt}
-use Rattle.search_rule.specs.Demand.{Findable}
-use Rattle.search.specs.Demand.{IsAnomaly, triedAt}
+use Rattle.bits.specs.Words.{placeOf}
+use Rattle.search_points.specs.Trial.{anomalyAt, trialAt}
+use Rattle.search_rule.specs.RulePromise.{Findable}
+use Rattle.search.specs.SearchPromise.{IsAnomaly, triedAt}
 use Rattle.search_points.specs.declared.figures.Initial.{Initial}
 use Rattle.states_arcs.specs.Results.{arcOf, resultsOf}
 use Rattle.states_start.specs.Words.{readOf}

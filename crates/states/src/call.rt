@@ -54,20 +54,15 @@ pub fn answered_with(points: u64, results: Results) -> Answer
 }
 
 // What a search of the interval reaches from a state: refusals 5 and 6, or the arc of the found anomaly.
-fn reached_by(
-    initial: Initial,
-    state: State,
-    tau: Seconds,
-    found: search::figures::Answer,
-) -> Reached
+fn reached_by(initial: Initial, state: State, tau: Seconds, found: search::Finding) -> Reached
     ensures { λ r. ⌜ r ≡ reachedBy initial state tau found ⌝ }
 {
     match found {
-        search::figures::Answer::Found { psi, points } => {
+        search::Finding::Found { psi, points } => {
             Reached::End(arc_at(initial, tau, psi, state), points)
         }
-        search::figures::Answer::AllShort { points } => Reached::Refused(5, points),
-        search::figures::Answer::Unreadable { points } => Reached::Refused(6, points),
+        search::Finding::AllShort { points } => Reached::Refused(5, points),
+        search::Finding::Unreadable { points } => Reached::Refused(6, points),
     }
 }
 

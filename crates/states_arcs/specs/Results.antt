@@ -7,7 +7,7 @@ use Rattle.series.specs.Series.{coefficientsOf, sumsOf}
 use Rattle.series.specs.declared.figures.Anomaly.{Anomaly}
 use Rattle.series.specs.declared.figures.Seconds.{Seconds}
 use Rattle.series.specs.declared.figures.Sums.{Sums}
-use Rattle.search_points.specs.Residual.{radiusOf}
+use Rattle.search_points.specs.Residual.{radiusOf, termsOf}
 use Rattle.search_points.specs.declared.figures.Initial.{Initial}
 use Rattle.states_arcs.specs.Finite.{allFinite, anyZero}
 use Rattle.states_arcs.specs.declared.figures.Vector.{Vector}
@@ -45,7 +45,7 @@ unfoldable pub arcOf : Initial → Seconds → Anomaly → State → Arc
 arcOf i tau psi start =
     let c = coefficientsOf (i .alpha) psi in
     let s = sumsOf psi c in
-    let r = radiusOf i (c .c0) (s .s1) (s .s2) in
+    let r = radiusOf i (termsOf (c .c0) s) in
     let k = factorsOf i tau s r in
     record { initial = i; tau = tau; psi = psi; c = c; s = s; r = r; factors = k; start = start; end = endOf k start }
 

@@ -50,7 +50,12 @@ pub fn arc_at(initial: Initial, tau: Seconds, psi: Anomaly, start: State) -> Arc
 {
     let c = series::coefficients(initial.alpha, psi);
     let s = series::sums(psi, c);
-    let r = radius(initial, c.c0, s.s1, s.s2);
+    let terms = search_points::Terms {
+        c0: c.c0,
+        s1: s.s1,
+        s2: s.s2,
+    };
+    let r = radius(initial, terms);
     let factors = factors_at(initial, tau, s, r);
     let end = end_of(factors, start);
     Arc {

@@ -3,22 +3,21 @@ use Prim.Native.Nat.{_+_, _-_, _*_, _^_, _≤_}
 use mathlib.Core.Path.{_≡_, refl, sym, _∙_}
 use native.Mathlib.Omega.{arith}
 use borrow.Author.Needs.{needs}
-use lib.Ieee.{neg}
 use Rattle.search_points.specs.Trial.{trialAt}
-use Rattle.search_rule.specs.History.{outward, outwardStep, counted}
+use Rattle.search_rule.specs.Rule.{outward, outwardStep, counted}
 use Rattle.search.specs.Search.{outwardAt}
 use Rattle.search_rule.proofs.Turns.{outward-turn, outward-none, stops, goes-on}
 use Rattle.search.proofs.outward.Statement.{statement}
 use Rattle.search.proofs.outward.Tie as tie
 
 abbrev Inv-loop : tie.InvT-loop
-Inv-loop initial tau first short₀ short-error₀ place₀ points₀ left₀ short short-error place points left =
-    (counted points (outwardAt initial tau left short short-error place) ≡ counted 0 (outwardAt initial tau 41 0 (neg (tau .0)) first))
+Inv-loop initial tau first short₀ place₀ points₀ left₀ short place points left =
+    (counted points (outward (trialAt initial tau) left place short) ≡ counted 0 (outwardAt initial tau first))
     × (points + left ≤ 41)
     × (place + left * 2 ^ 52 ≤ first + 41 * 2 ^ 52)
 
 abbrev μ-loop : tie.MeasureT-loop
-μ-loop initial tau first short₀ short-error₀ place₀ points₀ left₀ short short-error place points left = left
+μ-loop initial tau first short₀ place₀ points₀ left₀ short place points left = left
 
 loop-holds : tie.Need-loop-holds Inv-loop μ-loop
 loop-holds c = (refl, omega arith, omega arith)
@@ -40,9 +39,9 @@ returns c =
     let l = c .before .before .before .before .before .loop in
     let a = c .before .before .before .before .before .before .before .args in
     let ev = trialAt (a .initial) (a .tau) in
-    stops (l .points + 1) (outwardStep (l .short) (l .short-error) (l .place) (ev (l .place))) (λ r. outward ev (l .left - 1) (l .place) r (l .place + 2 ^ 52))
+    stops (l .points + 1) (outwardStep (l .short) (l .place) (ev (l .place))) (outward ev (l .left - 1) (l .place + 2 ^ 52))
     (sym (c .before .before .before .outward-step .ensures) ∙ c .before .step2 .given .1)
-    ∙ sym (outward-turn ev (l .left) (l .points) (l .short) (l .short-error) (l .place) (c .before .before .before .before .loop-test .taken))
+    ∙ sym (outward-turn ev (l .left) (l .points) (l .place) (l .short) (c .before .before .before .before .loop-test .taken))
     ∙ l .inv .0
 
 add-place : tie.Need-add-place Inv-loop μ-loop
@@ -62,9 +61,9 @@ loop-again c =
     let l = c .before .before .before .before .before .loop in
     let a = c .before .before .before .before .before .before .before .args in
     let ev = trialAt (a .initial) (a .tau) in (
-      sym (goes-on (l .points + 1) (outwardStep (l .short) (l .short-error) (l .place) (ev (l .place))) (λ r. outward ev (l .left - 1) (l .place) r (l .place + 2 ^ 52))
+      sym (goes-on (l .points + 1) (outwardStep (l .short) (l .place) (ev (l .place))) (outward ev (l .left - 1) (l .place + 2 ^ 52))
           (sym (c .before .before .before .outward-step .ensures) ∙ c .before .step .given .1))
-          ∙ sym (outward-turn ev (l .left) (l .points) (l .short) (l .short-error) (l .place) (c .before .before .before .before .loop-test .taken))
+          ∙ sym (outward-turn ev (l .left) (l .points) (l .place) (l .short) (c .before .before .before .before .loop-test .taken))
           ∙ l .inv .0,
       omega arith,
       omega arith,
@@ -74,7 +73,7 @@ returns-2 : tie.Need-returns-2 Inv-loop μ-loop
 returns-2 c =
     let l = c .before .loop in
     let a = c .before .before .before .args in
-    outward-none (trialAt (a .initial) (a .tau)) (l .left) (l .points) (l .short) (l .short-error) (l .place) (c .loop-test .left) ∙ l .inv .0
+    outward-none (trialAt (a .initial) (a .tau)) (l .left) (l .points) (l .place) (l .short) (c .loop-test .left) ∙ l .inv .0
 
 pub outward-spec : {M : Type 1} → statement M
 outward-spec =

@@ -19,7 +19,9 @@ offered-requires c κs = search needs
 
 returns-2 : tie.Need-returns-2
 unfolding byEnds
-returns-2 c = simp (c .before .before .before .before .before .before .before .if1 .left) (simp (c .before .before .before .before .before .before .anomaly-at .ensures, c .before .before .before .before .before .anomaly-at2 .ensures) at (c .offered .ensures))
+returns-2 c =
+    let b = c .before .before .before .before .before in
+    simp (b .before .before .if1 .left) (simp (b .before .anomaly-at .ensures, b .anomaly-at2 .ensures) at (c .offered .ensures))
 
 pub by-ends-spec : {M : Type 1} → statement M
 by-ends-spec =

@@ -11,30 +11,21 @@ returns : tie.Need-returns
 unfolding byRadius
 returns c = simp (← (c .before .radius .ensures), c .if1 .taken)
 
-last-place-requires : tie.Need-last-place-requires
-last-place-requires c κs = search needs
+last-tried-requires : tie.Need-last-tried-requires
+last-tried-requires c κs = search needs
 
 anomaly-at-requires : tie.Need-anomaly-at-requires
 anomaly-at-requires c κs = search needs
-
-last-error-requires : tie.Need-last-error-requires
-last-error-requires c κs = search needs
 
 offered-requires : tie.Need-offered-requires
 offered-requires c κs = search needs
 
 returns-2 : tie.Need-returns-2
 unfolding byRadius
-returns-2 c = simp (← (c .before .before .before .before .before .before .radius .ensures), c .before .before .before .before .before .if1 .left) (simp (c .before .before .before .anomaly-at .ensures, c .before .before .before .before .last-place .ensures, c .before .before .last-error .ensures) at (c .offered .ensures))
+returns-2 c =
+    let last = c .before .before .before .before in
+    simp (← (last .before .before .radius .ensures), last .before .if1 .left)
+    (simp (c .before .before .before .anomaly-at .ensures, last .last-tried .ensures) at (c .offered .ensures))
 
 pub by-radius-spec : {M : Type 1} → statement M
-by-radius-spec =
-    tie.close
-    (tie.spec
-    radius-requires
-    returns
-    last-place-requires
-    anomaly-at-requires
-    last-error-requires
-    offered-requires
-    returns-2)
+by-radius-spec = tie.close (tie.spec radius-requires returns last-tried-requires anomaly-at-requires offered-requires returns-2)

@@ -17,14 +17,29 @@ by-interval-requires c κs = search needs
 
 returns-2 : tie.Need-returns-2
 unfolding proposed
-returns-2 c = simp (← (c .before .before .before .by-radius .ensures), eq-eqb _ _ (c .before .before .if1 .left), ← (c .before .by-interval .ensures), ne-eqb _ _ (c .if2 .taken))
+returns-2 c =
+    let second = c .before in
+    simp (
+      ← (second .before .before .by-radius .ensures),
+      eq-eqb _ _ (second .before .if1 .left),
+      ← (second .by-interval .ensures),
+      ne-eqb _ _ (c .if2 .taken),
+    )
 
 by-ends-requires : tie.Need-by-ends-requires
 by-ends-requires c κs = search needs
 
 returns-3 : tie.Need-returns-3
 unfolding proposed
-returns-3 c = simp (← (c .before .before .before .before .by-radius .ensures), eq-eqb _ _ (c .before .before .before .if1 .left), ← (c .before .before .by-interval .ensures), eq-eqb _ _ (c .before .if2 .left)) (c .by-ends .ensures)
+returns-3 c =
+    let second = c .before .before in
+    simp (
+      ← (second .before .before .by-radius .ensures),
+      eq-eqb _ _ (second .before .if1 .left),
+      ← (second .by-interval .ensures),
+      eq-eqb _ _ (c .before .if2 .left),
+    )
+    (c .by-ends .ensures)
 
 pub proposal-spec : {M : Type 1} → statement M
 proposal-spec =

@@ -2,13 +2,13 @@
 use mathlib.Core.Path.{_∙_}
 use borrow.Author.Needs.{needs}
 use Rattle.search_points.proofs.Points.{above-zero}
-use Rattle.search_rule.specs.History.{counted}
+use Rattle.search_rule.specs.Rule.{counted}
 use Rattle.search_rule.proofs.Turns.{place-above}
 use Rattle.search.proofs.turn.tried.Statement.{statement}
 use Rattle.search.proofs.turn.tried.Tie as tie
 
-place-of-requires : tie.Need-place-of-requires
-place-of-requires c κs = c .pre .0
+chosen-place-requires : tie.Need-chosen-place-requires
+chosen-place-requires c κs = c .pre .0
 
 try-inner-requires : tie.Need-try-inner-requires
 try-inner-requires c κs = search needs
@@ -23,9 +23,9 @@ returns : tie.Need-returns
 unfolding counted
 returns c =
     let a = c .before .before .before .args in
-    let p = c .before .before .place-of in
-    let above = place-above (a .s) (a .offered) (c .before .before .before .pre .0) in
+    let p = c .before .before .chosen-place in
+    let above = place-above (a .pair) (a .offered) (c .before .before .before .pre .0) in
     simp (c .before .try-inner .ensures ∙ above-zero (a .initial) (a .tau) (p .result) (rw (p .ensures) above), p .ensures) at (c .moved-by .ensures)
 
 pub tried-spec : {M : Type 1} → statement M
-tried-spec = tie.close (tie.spec place-of-requires try-inner-requires add-moved-by moved-by-requires returns)
+tried-spec = tie.close (tie.spec chosen-place-requires try-inner-requires add-moved-by moved-by-requires returns)

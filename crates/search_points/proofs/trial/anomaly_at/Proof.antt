@@ -21,11 +21,15 @@ add-t6 : tie.Need-add-t6
 add-t6 c = let a = c .before .before .args in omega (arith, sign-bound (lt (a .tau .0) n0), c .sign-of .ensures)
 
 float-from-bits-t7 : tie.Need-float-from-bits-t7
-float-from-bits-t7 c = let a = c .before .before .args in rw (c .sign-of .ensures) (no-nan-bits _ (signed-field (lt (a .tau .0) n0) (a .place) (omega arith)))
+float-from-bits-t7 c =
+    let a = c .before .before .args in
+    rw (c .sign-of .ensures) (no-nan-bits _ (signed-field (lt (a .tau .0) n0) (a .place) (omega arith)))
 
 returns-2 : tie.Need-returns-2
 unfolding anomalyAt
-returns-2 c = let a = c .before .before .args in simp (lt-leb _ _ (c .before .if1 .left), c .sign-of .ensures, signed-word (lt (a .tau .0) n0) (a .place) (omega arith))
+returns-2 c =
+    let a = c .before .before .args in
+    simp (lt-leb _ _ (c .before .if1 .left), c .sign-of .ensures, signed-word (lt (a .tau .0) n0) (a .place) (omega arith))
 
 pub anomaly-at-spec : {M : Type 1} → statement M
 anomaly-at-spec = tie.close (tie.spec returns sign-of-requires add-t6 float-from-bits-t7 returns-2)

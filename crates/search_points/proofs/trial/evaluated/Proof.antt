@@ -19,7 +19,9 @@ point-of-requires c κs = search needs
 
 returns : tie.Need-returns
 unfolding evaluatedAt
-returns c = simp (sym (c .before .before .before .before .is-finite .ensures) ∙ c .before .before .before .if1 .taken) (simp (c .before .sums .ensures, c .before .before .coefficients .ensures) at (c .point-of .ensures))
+returns c =
+    simp (sym (c .before .before .before .before .is-finite .ensures) ∙ c .before .before .before .if1 .taken)
+    (simp (c .before .sums .ensures, c .before .before .coefficients .ensures) at (c .point-of .ensures))
 
 unevaluated-as-requires : tie.Need-unevaluated-as-requires
 unevaluated-as-requires c κs = search needs

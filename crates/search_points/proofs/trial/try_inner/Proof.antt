@@ -23,7 +23,8 @@ returns c =
     let a = c .before .before .before .before .before .before .before .args in
     let psi = c .before .before .before .before .before .before .anomaly-at in
     let f = c .before .first-sums in
-    finite-point (a .initial) (a .tau) (psi .result) (f .result) (sym (c .before .before .before .is-finite .ensures) ∙ c .before .before .if1 .taken) (f .ensures) (c .point-of .ensures)
+    let finite = sym (c .before .before .before .is-finite .ensures) ∙ c .before .before .if1 .taken in
+    finite-point (a .initial) (a .tau) (psi .result) (f .result) finite (f .ensures) (c .point-of .ensures)
     ∙ ap (evaluatedAt (a .initial) (a .tau)) (psi .ensures)
 
 unevaluated-as-requires : tie.Need-unevaluated-as-requires

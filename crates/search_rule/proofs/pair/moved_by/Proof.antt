@@ -1,41 +1,52 @@
--- Each arm is the definition at the sort that the match showed.
+-- A short point is the pair's new short end; of any other sort it stops as `step_by` says.
+use Prim.Native.Nat.{ℕ}
+use mathlib.Core.Path.{_≡_, refl, sym, ap, _∙_}
+use mathlib.Core.Bool.{false}
 use borrow.Author.Needs.{needs}
+use Rattle.search_points.specs.declared.figures.Sort.{Sort}
+use Rattle.search_points.specs.declared.figures.Sort.the-variants.{Short, Past, Exact, Unreadable}
+use Rattle.search_points.specs.declared.figures.Trial.{Trial}
+use Rattle.search_rule.specs.declared.pair.Pair.{Pair}
+use Rattle.search_rule.specs.declared.pair.Next.{Next}
+use Rattle.search_rule.specs.declared.pair.Next.the-variants as next
+use Rattle.search_rule.specs.declared.pair.Step.{Step}
+use Rattle.search_rule.specs.declared.pair.Step.the-variants as step
+use Rattle.search_rule.specs.Rule.{pairOf, outwardBy, outwardStep, movedBy, moved, nextOf, stepOf}
 use Rattle.search_rule.proofs.pair.moved_by.Statement.{statement}
 use Rattle.search_rule.proofs.pair.moved_by.Tie as tie
 
-enum-known-sort : tie.Need-enum-known-sort
-enum-known-sort c = search needs
+module _ (s : Pair) (t : Trial) (n : ℕ) where
+  abbrev taken : Step → Next
+  taken (step.On short) = next.Between (pairOf short (s .past) false t) n
+  taken (step.Stop x) = x
 
-enum-known-sort-2 : tie.Need-enum-known-sort-2
-enum-known-sort-2 c = search needs
+  taken-is : (v : Sort) (place : ℕ) → taken (stepOf n (outwardBy v (s .short) place t)) ≡ nextOf n (movedBy v s place t)
+  taken-is (Short r) place = refl
+  taken-is (Past r) place = refl
+  taken-is Exact place = refl
+  taken-is Unreadable place = refl
 
-enum-told : tie.Need-enum-told
-enum-told c = search needs
+  from : (place : ℕ) {x : Step} → x ≡ stepOf n (outwardStep (s .short) place t) → taken x ≡ nextOf n (moved s place t)
+  from place e = ap taken e ∙ taken-is (t .sort) place
 
-enum-told-2 : tie.Need-enum-told-2
-enum-told-2 c = search needs
+step-by-requires : tie.Need-step-by-requires
+step-by-requires c κs = search needs
+
+enum-known-step : tie.Need-enum-known-step
+enum-known-step c = search needs
+
+enum-known-step-2 : tie.Need-enum-known-step-2
+enum-known-step-2 c = search needs
 
 returns : tie.Need-returns
-returns c = simp (c .before .sort .given .1)
+returns c =
+    let a = c .before .before .before .before .before .before .args in
+    from (a .pair) (a .t) (a .points) (a .place) (sym (c .before .step .given .1) ∙ c .before .before .before .step-by .ensures)
 
 returns-2 : tie.Need-returns-2
-returns-2 c = simp (c .before .sort2 .given .1)
-
-returns-3 : tie.Need-returns-3
-returns-3 c = simp (c .enum-told .given .1)
-
-returns-4 : tie.Need-returns-4
-returns-4 c = simp (c .enum-told2 .given .1)
+returns-2 c =
+    let a = c .before .before .before .before .before .before .args in
+    from (a .pair) (a .t) (a .points) (a .place) (sym (c .before .step2 .given .1) ∙ c .before .before .before .step-by .ensures)
 
 pub moved-by-spec : {M : Type 1} → statement M
-moved-by-spec =
-    tie.close
-    (tie.spec
-    enum-known-sort
-    enum-known-sort-2
-    enum-told
-    enum-told-2
-    returns
-    returns-2
-    returns-3
-    returns-4)
+moved-by-spec = tie.close (tie.spec step-by-requires enum-known-step enum-known-step-2 returns returns-2)

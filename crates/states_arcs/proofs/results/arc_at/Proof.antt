@@ -7,7 +7,7 @@ use Rattle.series.specs.declared.figures.Anomaly.{Anomaly}
 use Rattle.series.specs.declared.figures.Coefficients.{Coefficients}
 use Rattle.series.specs.declared.figures.Seconds.{Seconds}
 use Rattle.series.specs.declared.figures.Sums.{Sums}
-use Rattle.search_points.specs.Residual.{radiusOf}
+use Rattle.search_points.specs.Residual.{radiusOf, termsOf}
 use Rattle.search_points.specs.declared.figures.Initial.{Initial}
 use Rattle.states_arcs.specs.Results.{factorsOf, endOf, arcOf}
 use Rattle.states_arcs.specs.declared.figures.Factors.{Factors}
@@ -16,7 +16,7 @@ use Rattle.states_arcs.proofs.results.arc_at.Statement.{statement}
 use Rattle.states_arcs.proofs.results.arc_at.Tie as tie
 
 module _ (i : Initial) (tau : Seconds) (psi : Anomaly) (start : State) (c : Coefficients) (s : Sums) (r : Float) (k : Factors) (end : State) where
-  assembled : c ≡ coefficientsOf (i .alpha) psi → s ≡ sumsOf psi c → r ≡ radiusOf i (c .c0) (s .s1) (s .s2) → k ≡ factorsOf i tau s r → end ≡ endOf k start
+  assembled : c ≡ coefficientsOf (i .alpha) psi → s ≡ sumsOf psi c → r ≡ radiusOf i (termsOf (c .c0) s) → k ≡ factorsOf i tau s r → end ≡ endOf k start
       → record { initial = i; tau = tau; psi = psi; c = c; s = s; r = r; factors = k; start = start; end = end } ≡ arcOf i tau psi start
   unfolding arcOf
   assembled ec es er ek ee = rw (ee, ek, er, es, ec)

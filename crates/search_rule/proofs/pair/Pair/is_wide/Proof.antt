@@ -1,10 +1,11 @@
 -- Ends in the wrong order are not wide, as a difference cut off at zero is not.
-use Prim.Native.Nat.{_-_, _≤_}
+use Prim.Native.Nat.{_≤_}
 use native.Mathlib.Omega.{arith}
 use borrow.Author.Tests.{le-ltb}
 use borrow.Author.Needs.{needs}
-use Rattle.search_rule.proofs.pair.is_wide.Statement.{statement}
-use Rattle.search_rule.proofs.pair.is_wide.Tie as tie
+use Rattle.search_rule.specs.Rule.{gap}
+use Rattle.search_rule.proofs.pair.Pair.is_wide.Statement.{statement}
+use Rattle.search_rule.proofs.pair.Pair.is_wide.Tie as tie
 
 sub-result : tie.Need-sub-result
 sub-result c = search needs
@@ -13,7 +14,7 @@ returns : tie.Need-returns
 returns c = search needs
 
 returns-2 : tie.Need-returns-2
-returns-2 c = let e : c .before .before .args .pair .past - c .before .before .args .pair .short ≤ 1 = omega arith in simp (le-ltb _ _ e)
+returns-2 c = let e : gap (c .before .before .args .self) ≤ 1 = omega arith in simp (le-ltb _ _ e)
 
 pub is-wide-spec : {M : Type 1} → statement M
 is-wide-spec = tie.close (tie.spec sub-result returns returns-2)

@@ -2,8 +2,8 @@
 use mathlib.Core.Path.{ap}
 use Prim.Native.Nat.{ℕ, _%_, _^_}
 use borrow.Author.Needs.{needs}
-use Rattle.search_points.proofs.trial.place_of.Statement.{statement}
-use Rattle.search_points.proofs.trial.place_of.Tie as tie
+use Rattle.bits.proofs.words.place_of.Statement.{statement}
+use Rattle.bits.proofs.words.place_of.Tie as tie
 
 word-of-requires : tie.Need-word-of-requires
 word-of-requires c κs = search needs

@@ -1,7 +1,7 @@
 -- Each arm is the definition at the end that the match showed.
 use borrow.Author.Needs.{needs}
-use Rattle.search.proofs.answer.Statement.{statement}
-use Rattle.search.proofs.answer.Tie as tie
+use Rattle.search.proofs.finding_of.Statement.{statement}
+use Rattle.search.proofs.finding_of.Tie as tie
 
 enum-known-next : tie.Need-enum-known-next
 enum-known-next c = search needs
@@ -33,8 +33,8 @@ returns-3 c = simp (c .before .next3 .given .1)
 returns-4 : tie.Need-returns-4
 returns-4 c = simp (c .before .next4 .given .1)
 
-pub answer-spec : {M : Type 1} → statement M
-answer-spec =
+pub finding-of-spec : {M : Type 1} → statement M
+finding-of-spec =
     tie.close
     (tie.spec
     enum-known-next

@@ -1,21 +1,22 @@
--- No interval, and a search with many inner points, computed here from the definitions; the figures come from an independent program. Document 01's marked cases
--- are in the table of crate `results`.
+-- No interval, and a search with many inner points, computed here from the definitions; the figures come from an independent program. Document 01's
+-- marked cases are in the table of crate `files_results`.
 use Prim.Native.Nat.{ℕ}
 use mathlib.Core.Path.{_≡_, refl}
 use mathlib.Core.List.{List, [], _∷_}
 use lib.Ieee.{Float, binary64, ofBits, toBits, neg, add, sub, mul, div, lt, eq, ne}
+use Rattle.bits.specs.Words.{placeOf}
 use Rattle.series.specs.Series.{beyondOne, reducedFrom, nested, c4Of, c5Of, atReduced, doublings, quotientsOf, coefficientsOf, sumsOf}
 use Rattle.series.specs.declared.figures.Anomaly.{Anomaly}
 use Rattle.series.specs.declared.figures.Seconds.{Seconds}
 use Rattle.search_points.specs.declared.figures.Initial.{Initial}
-use Rattle.search.specs.declared.figures.Answer.{Answer}
-use Rattle.search.specs.declared.figures.Answer.the-variants as answer
+use Rattle.search.specs.declared.figures.Finding.{Finding}
+use Rattle.search.specs.declared.figures.Finding.the-variants as finding
 use Rattle.search_points.specs.declared.figures.Sort.{Sort}
 use Rattle.search_points.specs.declared.figures.Sort.the-variants.{Short, Past, Exact}
 use Rattle.search_points.specs.Residual.{timeErrorOf, radiusOf}
-use Rattle.search_points.specs.Trial.{placeOf, anomalyAt, sortOf, unevaluated, evaluatedAt, trialAt}
-use Rattle.search_rule.specs.History.{between, exact, unreadable, allShort, History, tries, ends, onward, outward, halving, inward, history}
-use Rattle.search_rule.specs.History as rule
+use Rattle.search_points.specs.Trial.{anomalyAt, sortOf, evaluatedAt, trialAt}
+use Rattle.search_rule.specs.Rule.{between, exact, unreadable, allShort, History, tries, ends, onward, outward, halving, inward, history}
+use Rattle.search_rule.specs.Rule as rule
 use Rattle.search_proposals.specs.Proposals.{offeredAt, byRadius, byInterval, byEnds, proposed}
 use Rattle.search.specs.Search.{historyAt, searchOf}
 
@@ -32,8 +33,8 @@ seconds tau = record { 0 = number tau }
 abbrev anomaly : ℕ → Anomaly
 anomaly psi = record { 0 = number psi }
 
-abbrev found : (psi points : ℕ) → Answer
-found psi points = answer.Found (anomaly psi) points
+abbrev found : (psi points : ℕ) → Finding
+found psi points = finding.Found (anomaly psi) points
 
 -- "If τ is either zero, ψ = +0 with no trial points."
 pub no-interval : (i : Initial) (h : Anomaly) → (searchOf i (seconds 0) h ≡ found 0 0) × (searchOf i (seconds 0x8000000000000000) h ≡ found 0 0)
@@ -52,7 +53,7 @@ past place error = (place, Past (number error))
 
 abbrev rows : History → List Row
 rows (tries p h) = (p .place, p .trial .sort) ∷ rows h
-rows (ends (between s)) = (s .short, Short (s .«short_error»)) ∷ (s .past, Past (s .«past_error»)) ∷ []
+rows (ends (between s)) = (s .short .place, Short (s .short .error)) ∷ (s .past .place, Past (s .past .error)) ∷ []
 rows (ends (exact p)) = (p, Exact) ∷ []
 rows (ends unreadable) = []
 rows (ends allShort) = []
@@ -101,5 +102,5 @@ forward :
     ∷ short 0x3fc557f619cd935c 0xbd50000000000000
     ∷ past 0x3fc557f619cd935d 0x3d50000000000000
     ∷ [])
-unfolding ofBits toBits neg add sub mul div lt eq ne beyondOne reducedFrom nested c4Of c5Of atReduced doublings quotientsOf coefficientsOf sumsOf timeErrorOf radiusOf anomalyAt sortOf unevaluated evaluatedAt trialAt onward outward halving rule.round inward history offeredAt byRadius byInterval byEnds proposed
+unfolding ofBits toBits neg add sub mul div lt eq ne beyondOne reducedFrom nested c4Of c5Of atReduced doublings quotientsOf coefficientsOf sumsOf timeErrorOf radiusOf anomalyAt sortOf evaluatedAt trialAt onward outward halving rule.round inward history offeredAt byRadius byInterval byEnds proposed
 forward = refl

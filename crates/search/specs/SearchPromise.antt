@@ -1,0 +1,58 @@
+-- What the search of document 01 promises, with any proposal: what its caller learns without opening the history.
+use Prim.Native.Nat.{ℕ, _+_, _≤_}
+use mathlib.Core.Path.{_≡_}
+use mathlib.Core.Bool.{true, false}
+use mathlib.Core.List.{List}
+use mathlib.Core.Logic.{_⊎_}
+use lib.ListN.{length}
+use lib.Ieee.{Float, eq}
+use Rattle.bits.specs.Arithmetic.{n0}
+use Rattle.bits.specs.Words.{placeOf}
+use Rattle.series.specs.declared.figures.Anomaly.{Anomaly}
+use Rattle.series.specs.declared.figures.Seconds.{Seconds}
+use Rattle.search_points.specs.declared.figures.Initial.{Initial}
+use Rattle.search_points.specs.declared.figures.Sort.the-variants.{Short, Past, Exact, Unreadable}
+use Rattle.search_points.specs.Trial.{anomalyAt, trialAt}
+use Rattle.search_rule.specs.Rule.{Point, Proposal, pointsIn}
+use Rattle.search_rule.specs.RulePromise.{Findable, AllOutwardShort, SomeUnreadable, LastUnreadable}
+use Rattle.search_proposals.specs.Proposals.{threeProposals}
+use Rattle.search.specs.declared.figures.Finding.{Finding}
+use Rattle.search.specs.declared.figures.Finding.the-variants as finding
+use Rattle.search.specs.Search.{historyBy}
+
+-- An anomaly's place: the time error there is zero, or it is short and the very next place is past.
+abbrev pub IsAnomaly : Initial → Seconds → ℕ → Type 0
+IsAnomaly i tau p = (trialAt i tau p .sort ≡ Exact) ⊎ ((r r' : Float) × (trialAt i tau p .sort ≡ Short r) × (trialAt i tau (p + 1) .sort ≡ Past r'))
+
+-- The points that a finding reports.
+abbrev pub usedIn : Finding → ℕ
+usedIn (finding.Found psi n) = n
+usedIn (finding.AllShort n) = n
+usedIn (finding.Unreadable n) = n
+
+-- The points that the search tries, in order; and those of document 01's.
+abbrev pub triedBy : Proposal → Initial → Seconds → (first : ℕ) → List Point
+triedBy pr i tau first = pointsIn (historyBy pr i tau first)
+
+abbrev pub triedAt : Initial → Seconds → (first : ℕ) → List Point
+triedAt i tau first = triedBy (threeProposals i tau) i tau first
+
+-- What a finding says, where tau isn't zero.
+abbrev pub Says : Proposal → Initial → Seconds → (first : ℕ) → Finding → Type 0
+Says pr i tau first (finding.Found psi n) = (p : ℕ) × (psi ≡ anomalyAt tau p) × IsAnomaly i tau p
+Says pr i tau first (finding.AllShort n) = AllOutwardShort (trialAt i tau) first
+Says pr i tau first (finding.Unreadable n) = LastUnreadable (triedBy pr i tau first)
+
+-- And when it is given. "A made-up point count breaks demand 3, because the rule's own history has the count."
+pub record Searched (pr : Proposal) (i : Initial) (tau : Seconds) (first : ℕ) (a : Finding) : Type 0 where
+  pub says : Says pr i tau first a
+  pub finds : Findable (trialAt i tau) first → (psi : Anomaly) × (a ≡ finding.Found psi (usedIn a))
+  pub all-short : AllOutwardShort (trialAt i tau) first → a ≡ finding.AllShort 41
+  pub unreadable : SomeUnreadable (triedBy pr i tau first) → a ≡ finding.Unreadable (usedIn a)
+  pub counts : usedIn a ≡ length (triedBy pr i tau first)
+  pub at-most : usedIn a ≤ 145
+
+-- All that a caller learns. "If τ is either zero, ψ = +0 with no trial points."
+pub record Promise (pr : Proposal) (i : Initial) (tau : Seconds) (h : Anomaly) (a : Finding) : Type 0 where
+  pub no-interval : eq (tau .0) n0 ≡ true → a ≡ finding.Found (record { 0 = n0 }) 0
+  pub interval : eq (tau .0) n0 ≡ false → Searched pr i tau (placeOf (h .0)) a

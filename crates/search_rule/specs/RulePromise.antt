@@ -1,0 +1,94 @@
+-- What the rule promises (document 01, demand 3 and "What holds the contracts honest"), for any trial function and any proposal.
+use Prim.Native.Nat.{ℕ, _+_, _*_, _^_, _<_, _≤_}
+use mathlib.Core.Path.{_≡_}
+use mathlib.Core.List.{List, [], _∷_, _++_}
+use mathlib.Core.Logic.{_⊎_}
+use lib.Ieee.{Float}
+use Rattle.search_points.specs.declared.figures.Sort.{Sort}
+use Rattle.search_points.specs.declared.figures.Sort.the-variants.{Short, Past, Exact, Unreadable}
+use Rattle.search_rule.specs.declared.pair.End.{End}
+use Rattle.search_rule.specs.Rule.{Point, Trials, Proposal, Ending, between, exact, unreadable, allShort, History, endingOf, onward, outwardPart}
+use Rattle.search_rule.specs.Rule.{inward, history}
+
+-- What the rule asks of a trial function: place 0 is short, with the error given, and no place from 2 ^ 63 on is readable.
+pub record Sorts (ev : Trials) (error : Float) : Type 0 where
+  pub zero-short : ev 0 .sort ≡ Short error
+  pub top-unreadable : (p : ℕ) → 2 ^ 63 ≤ p → ev p .sort ≡ Unreadable
+
+-- ---- The outward points.
+abbrev pub IsShort : Sort → Type 0
+IsShort (Short r) = Unit {0}
+IsShort (Past r) = ⊥
+IsShort Exact = ⊥
+IsShort Unreadable = ⊥
+
+-- The k-th of them.
+abbrev pub outPoint : ℕ → ℕ → ℕ
+outPoint first k = first + k * 2 ^ 52
+
+-- The first k of them are short; and all 41.
+abbrev pub ShortBefore : Trials → (first k : ℕ) → Type 0
+ShortBefore ev first k = (i : ℕ) → i < k → IsShort (ev (outPoint first i) .sort)
+
+abbrev pub AllOutwardShort : Trials → (first : ℕ) → Type 0
+AllOutwardShort ev first = ShortBefore ev first 41
+
+-- The k-th is the first of n that isn't short.
+pub record FirstNotShort (ev : Trials) (first n k : ℕ) : Type 0 where
+  pub among : k < n
+  pub shorts : ShortBefore ev first k
+  pub not-short : IsShort (ev (outPoint first k) .sort) → ⊥
+
+-- ---- Demand 3: "if some of the 41 outward points isn't short and no double up to the first such point is unreadable, an anomaly is found, exact or short
+-- with the very next double past; .. whatever formula proposes the inner points."
+
+-- No place up to p is unreadable.
+abbrev pub ReadableUpTo : Trials → ℕ → Type 0
+ReadableUpTo ev p = (q : ℕ) → q ≤ p → ev q .sort ≡ Unreadable → ⊥
+
+-- Its premise: some outward point isn't short, and no place up to the first such point is unreadable.
+pub record Findable (ev : Trials) (first : ℕ) : Type 0 where
+  pub k : ℕ
+  pub first-not-short : FirstNotShort ev first 41 k
+  pub readable : ReadableUpTo ev (outPoint first k)
+
+-- An end of a pair is what it says.
+abbrev pub IsShortEnd : Trials → End → Type 0
+IsShortEnd ev e = ev (e .place) .sort ≡ Short (e .error)
+
+abbrev pub IsPastEnd : Trials → End → Type 0
+IsPastEnd ev e = ev (e .place) .sort ≡ Past (e .error)
+
+-- An anomaly is found: its time error is zero, or it is short and the very next place is past.
+abbrev pub IsFound : Trials → Ending → Type 0
+IsFound ev (between s) = IsShortEnd ev (s .short) × IsPastEnd ev (s .past) × (s .past .place ≡ s .short .place + 1)
+IsFound ev (exact p) = ev p .sort ≡ Exact
+IsFound ev unreadable = ⊥
+IsFound ev allShort = ⊥
+
+abbrev pub Finds : Type 0
+Finds = (ev : Trials) (pr : Proposal) (first : ℕ) (error : Float) → Sorts ev error → Findable ev first → IsFound ev (endingOf (history ev pr first error))
+
+-- However it ends: an anomaly is found, an unreadable point was tried, or all outward points were short.
+abbrev pub EndsAs : Trials → Ending → Type 0
+EndsAs ev e = IsFound ev e ⊎ ((e ≡ unreadable) ⊎ (e ≡ allShort))
+
+abbrev pub EndsSo : Type 0
+EndsSo = (ev : Trials) (pr : Proposal) (first : ℕ) (error : Float) → Sorts ev error → EndsAs ev (endingOf (history ev pr first error))
+
+-- ---- The history with another number of rounds, for the sharper bounds that the places give.
+abbrev pub historyIn : (rounds : ℕ) → Trials → Proposal → (first : ℕ) (error : Float) → History
+historyIn rounds ev pr first error = onward [] (outwardPart ev first error) (inward ev pr rounds 0)
+
+-- ---- An unreadable point: some point of these is one.
+abbrev pub SomeUnreadable : List Point → Type 0
+SomeUnreadable [] = ⊥
+SomeUnreadable (p ∷ ps) = (p .trial .sort ≡ Unreadable) ⊎ SomeUnreadable ps
+
+-- The last point of these is unreadable, and no other.
+pub record LastUnreadable (ps : List Point) : Type 0 where
+  pub before : List Point
+  pub last : Point
+  pub all : ps ≡ before ++ (last ∷ [])
+  pub last-is : last .trial .sort ≡ Unreadable
+  pub readable-before : SomeUnreadable before → ⊥
