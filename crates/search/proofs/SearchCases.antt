@@ -1,4 +1,4 @@
--- No interval, and a search with many inner points, computed here from the definitions; the figures come from an independent program. Document 01's
+-- No interval, and two searches with many inner points, on in time and back, computed here from the definitions; the figures come from an independent program. Document 01's
 -- marked cases are in the table of crate `files_results`.
 use Prim.Native.Nat.{ℕ}
 use mathlib.Core.Path.{_≡_, refl}
@@ -50,6 +50,9 @@ short place error = (place, Short (number error))
 
 abbrev past : (place error : ℕ) → Row
 past place error = (place, Past (number error))
+
+abbrev exactly : (place : ℕ) → Row
+exactly place = (place, Exact)
 
 abbrev rows : History → List Row
 rows (tries p h) = (p .place, p .trial .sort) ∷ rows h
@@ -104,3 +107,45 @@ forward :
     ∷ [])
 unfolding ofBits toBits neg add sub mul div lt eq ne beyondOne reducedFrom nested c4Of c5Of atReduced doublings quotientsOf coefficientsOf sumsOf timeErrorOf radiusOf anomalyAt sortOf evaluatedAt trialAt onward outward halving rule.round inward history offeredAt byRadius byInterval byEnds proposed
 forward = refl
+
+-- Back in time: μ = 42828.37 km^3/s^2, position (3500, 900, -1200) km, velocity (0.4, -3.2, 1.9) km/s, τ = -3100 s. After 21 outward points there are six rounds,
+-- which take in turn the first, second, first, third, first and third proposal, and the last ends at an exact point.
+backward :
+    Tries (initial 0x40e4e98bd70a3d71 0x40adbfc5ea4411d5 0xc0ad600000000000 0xc020f81881529c32) (seconds 0xc0a8380000000000) (anomaly 0x3eaa0d1b33099109)
+    (
+    short 0x3eaa0d1b33099109 0x40a837fe7c7ff644
+    ∷ short 0x3eba0d1b33099109 0x40a837fcf8ffd910
+    ∷ short 0x3eca0d1b33099109 0x40a837f9f1ff6440
+    ∷ short 0x3eda0d1b33099109 0x40a837f3e3fd9101
+    ∷ short 0x3eea0d1b33099109 0x40a837e7c7f64400
+    ∷ short 0x3efa0d1b33099109 0x40a837cf8fd90fe1
+    ∷ short 0x3f0a0d1b33099109 0x40a8379f1f643e98
+    ∷ short 0x3f1a0d1b33099109 0x40a8373e3d90f2fc
+    ∷ short 0x3f2a0d1b33099109 0x40a8367c764390d4
+    ∷ short 0x3f3a0d1b33099109 0x40a834f8d90c6a82
+    ∷ short 0x3f4a0d1b33099109 0x40a831f16422e55c
+    ∷ short 0x3f5a0d1b33099109 0x40a82be190158b6e
+    ∷ short 0x3f6a0d1b33099109 0x40a81fbe3ca794fb
+    ∷ short 0x3f7a0d1b33099109 0x40a80768d54517e8
+    ∷ short 0x3f8a0d1b33099109 0x40a7d6826c05cfd1
+    ∷ short 0x3f9a0d1b33099109 0x40a773c283aceb6e
+    ∷ short 0x3faa0d1b33099109 0x40a6aa5276627098
+    ∷ short 0x3fba0d1b33099109 0x40a506ab00d5f494
+    ∷ short 0x3fca0d1b33099109 0x40a175b64656cfda
+    ∷ short 0x3fda0d1b33099109 0x40922c746db661da
+    ∷ past 0x3fea0d1b33099109 0xc09708ee203d0cf8
+    ∷ past 0x3fe326969930d4a6 0xc034bbd6c6c3ca00
+    ∷ short 0x3fde99d8e61d32d7 0x408725c4fe5deae0
+    ∷ short 0x3fe2f4d7aa824cf8 0x4032e10280559a80
+    ∷ past 0x3fe30db721d990cf 0xbfed3dd4fba27000
+    ∷ past 0x3fe30c915c16677c 0xbefe5e1a80000000
+    ∷ short 0x3fe300b4834c5a3a 0x4022e298e4abd200
+    ∷ short 0x3fe30c9159b3fe8b 0x3e446f0000000000
+    ∷ past 0x3fe30c915ae53303 0xbeee5b8c80000000
+    ∷ past 0x3fe30c9159b431df 0xbd60000000000000
+    ∷ short 0x3fe30c9159b41835 0x3e346f0000000000
+    ∷ exactly 0x3fe30c9159b431de
+    ∷ exactly 0x3fe30c9159b431de
+    ∷ [])
+unfolding ofBits toBits neg add sub mul div lt eq ne beyondOne reducedFrom nested c4Of c5Of atReduced doublings quotientsOf coefficientsOf sumsOf timeErrorOf radiusOf anomalyAt sortOf evaluatedAt trialAt onward outward halving rule.round inward history offeredAt byRadius byInterval byEnds proposed
+backward = refl

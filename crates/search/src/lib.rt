@@ -5,7 +5,6 @@ ghost use Rattle.search_points.specs.Trial.{trialAt};
 ghost use Rattle.search_rule.specs.Rule.{outwardStep, counted, stepOf};
 ghost use Rattle.search.specs.Search.{outwardAt, inwardAt, findingOf, searchOf};
 use bits::words::FIELD;
-use bits::words::place_of;
 use search_points::Initial;
 use search_points::anomaly_at;
 use search_points::try_at;
@@ -32,7 +31,7 @@ pub fn search(initial: Initial, tau: Seconds, h: Anomaly) -> Finding
             points: 0,
         };
     }
-    let next = outward(initial, tau, place_of(h.0));
+    let next = outward(initial, tau, h.place());
     match next {
         Next::Between(pair, points) => finding_of(tau, inward(initial, tau, pair, points)),
         _ => finding_of(tau, next),

@@ -117,15 +117,23 @@ pub fn try_at(initial: Initial, tau: Seconds, place: u64) -> Trial
     evaluated(initial, tau, anomaly_at(tau, place))
 }
 
-// The point at a place without the rule for place 0, for the inward turns, which try most of the points, all above 0: `first_sums` has no other caller, so the
-// compiler writes it into their loop.
-pub fn try_inner(initial: Initial, tau: Seconds, place: u64) -> Trial
-    ensures { λ r. ⌜ r ≡ evaluatedAt initial tau (anomalyAt tau place) ⌝ }
+// The point of an anomaly as `evaluated` has it, by the first sums alone.
+fn evaluated_inner(initial: Initial, tau: Seconds, psi: Anomaly) -> Trial
+    ensures { λ r. ⌜ r ≡ evaluatedAt initial tau psi ⌝ }
 {
-    let psi = anomaly_at(tau, place);
     if bits::words::is_finite(initial.alpha * (psi.0 * psi.0)) {
         let first = series::first_sums(initial.alpha, psi);
         return point_of(initial, tau, first.c0, first.sums);
     }
     unevaluated_as(Sort::Unreadable)
+}
+
+// The same for the inward turns, which try most of the points: `first_sums` has no other caller, so the compiler writes it into their loop.
+pub fn try_inner(initial: Initial, tau: Seconds, place: u64) -> Trial
+    ensures { λ r. ⌜ r ≡ trialAt initial tau place ⌝ }
+{
+    if place == 0 {
+        return unevaluated_as(Sort::Short(-tau.0));
+    }
+    evaluated_inner(initial, tau, anomaly_at(tau, place))
 }

@@ -1,10 +1,22 @@
 // The quantities of this layer. They stand apart from the functions because Rattle tells `coefficients` and `Coefficients` apart only by their modules.
+ghost use mathlib.Core.Path.{_≡_};
+ghost use Rattle.bits.specs.Words.{placeOf};
+use bits::words::place_of;
 
 // A time in seconds (s).
 pub struct Seconds(pub f64);
 
 // An anomaly, psi of document 01, in seconds per kilometre (s/km).
 pub struct Anomaly(pub f64);
+
+impl Anomaly {
+    // Its place: the bits of |psi| read as a whole number. An interval has none.
+    pub fn place(self) -> u64
+        ensures { λ r. ⌜ r ≡ placeOf (self .0) ⌝ }
+    {
+        place_of(self.0)
+    }
+}
 
 // c0 to c5 of an anomaly, plain numbers.
 pub struct Coefficients {

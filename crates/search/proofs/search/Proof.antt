@@ -38,8 +38,8 @@ returns : tie.Need-returns
 unfolding searchOf
 returns c = simp (c .if1 .taken)
 
-place-of-requires : tie.Need-place-of-requires
-place-of-requires c κs = search needs
+place-requires : tie.Need-place-requires
+place-requires c κs = search needs
 
 outward-requires : tie.Need-outward-requires
 outward-requires c κs = search needs
@@ -54,7 +54,7 @@ inward-requires c κs =
     omega (
       arith,
       between-used _ _ _ (o .outward .ensures) (c .before .next .given .1),
-      outward-points (trialAt (a .initial) (a .tau)) 41 (o .before .place-of .result) (endAt 0 (neg (a .tau .0))),
+      outward-points (trialAt (a .initial) (a .tau)) 41 (o .before .place .result) (endAt 0 (neg (a .tau .0))),
     )
 
 finding-of-requires : tie.Need-finding-of-requires
@@ -71,7 +71,7 @@ returns-2 c =
     ∙ ap (findingOf (a .tau))
     (c .before .inward .ensures
     ∙ ap (λ (y : Next). after y (inwardAt (a .initial) (a .tau))) (sym (c .before .before .before .next .given .1))
-    ∙ whole (a .initial) (a .tau) (a .h) (o .before .place-of .ensures) (o .outward .ensures))
+    ∙ whole (a .initial) (a .tau) (a .h) (o .before .place .ensures) (o .outward .ensures))
     ∙ of-interval (a .initial) (a .tau) (a .h) (o .before .before .if1 .left)
 
 returns-3 : tie.Need-returns-3
@@ -80,7 +80,7 @@ returns-3 c =
     c .finding-of2 .ensures
     ∙ ap (findingOf (a .tau))
     (handed-on (c .before .before .outward .result) (inwardAt (a .initial) (a .tau)) (c .before .match .keys2)
-    ∙ whole (a .initial) (a .tau) (a .h) (c .before .before .before .place-of .ensures) (c .before .before .outward .ensures))
+    ∙ whole (a .initial) (a .tau) (a .h) (c .before .before .before .place .ensures) (c .before .before .outward .ensures))
     ∙ of-interval (a .initial) (a .tau) (a .h) (c .before .before .before .before .if1 .left)
 
 pub search-spec : {M : Type 1} → statement M
@@ -88,7 +88,7 @@ search-spec =
     tie.close
     (tie.spec
     returns
-    place-of-requires
+    place-requires
     outward-requires
     enum-known-next
     inward-requires

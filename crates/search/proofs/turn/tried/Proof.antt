@@ -1,9 +1,6 @@
--- The pair moved by what is tried. The place is above 0: the offered one isn't 0, and the halving place of a wide pair lies above its short end.
-use mathlib.Core.Path.{_∙_}
+-- The pair moved by what is tried.
 use borrow.Author.Needs.{needs}
-use Rattle.search_points.proofs.Points.{above-zero}
 use Rattle.search_rule.specs.Rule.{counted}
-use Rattle.search_rule.proofs.Turns.{place-above}
 use Rattle.search.proofs.turn.tried.Statement.{statement}
 use Rattle.search.proofs.turn.tried.Tie as tie
 
@@ -21,11 +18,7 @@ moved-by-requires c κs = search needs
 
 returns : tie.Need-returns
 unfolding counted
-returns c =
-    let a = c .before .before .before .args in
-    let p = c .before .before .chosen-place in
-    let above = place-above (a .pair) (a .offered) (c .before .before .before .pre .0) in
-    simp (c .before .try-inner .ensures ∙ above-zero (a .initial) (a .tau) (p .result) (rw (p .ensures) above), p .ensures) at (c .moved-by .ensures)
+returns c = simp (c .before .try-inner .ensures, c .before .before .chosen-place .ensures) at (c .moved-by .ensures)
 
 pub tried-spec : {M : Type 1} → statement M
 tried-spec = tie.close (tie.spec chosen-place-requires try-inner-requires add-moved-by moved-by-requires returns)

@@ -1,50 +1,32 @@
--- As `evaluated`, by the first sums alone.
-use mathlib.Core.Path.{sym, ap, _∙_}
+-- As `try_at`.
+use native.Mathlib.Omega.{arith}
+use mathlib.Core.Path.{ap, _∙_}
+use borrow.Author.Tests.{eq-eqb}
 use borrow.Author.Needs.{needs}
-use Rattle.search_points.specs.Trial.{evaluatedAt}
-use Rattle.search_points.proofs.Points.{finite-point, no-point}
+use Rattle.search_points.specs.Trial.{evaluatedAt, trialAt}
+use Rattle.search_points.proofs.Points.{above-zero}
 use Rattle.search_points.proofs.trial.try_inner.Statement.{statement}
 use Rattle.search_points.proofs.trial.try_inner.Tie as tie
-
-anomaly-at-requires : tie.Need-anomaly-at-requires
-anomaly-at-requires c κs = search needs
-
-is-finite-requires : tie.Need-is-finite-requires
-is-finite-requires c κs = search needs
-
-first-sums-requires : tie.Need-first-sums-requires
-first-sums-requires c κs = search needs
-
-point-of-requires : tie.Need-point-of-requires
-point-of-requires c κs = search needs
-
-returns : tie.Need-returns
-returns c =
-    let a = c .before .before .before .before .before .before .before .args in
-    let psi = c .before .before .before .before .before .before .anomaly-at in
-    let f = c .before .first-sums in
-    let finite = sym (c .before .before .before .is-finite .ensures) ∙ c .before .before .if1 .taken in
-    finite-point (a .initial) (a .tau) (psi .result) (f .result) finite (f .ensures) (c .point-of .ensures)
-    ∙ ap (evaluatedAt (a .initial) (a .tau)) (psi .ensures)
 
 unevaluated-as-requires : tie.Need-unevaluated-as-requires
 unevaluated-as-requires c κs = search needs
 
+returns : tie.Need-returns
+unfolding trialAt
+returns c = simp (eq-eqb _ _ (c .before .before .if1 .taken)) (c .unevaluated-as .ensures)
+
+anomaly-at-requires : tie.Need-anomaly-at-requires
+anomaly-at-requires c κs = search needs
+
+evaluated-inner-requires : tie.Need-evaluated-inner-requires
+evaluated-inner-requires c κs = search needs
+
 returns-2 : tie.Need-returns-2
 returns-2 c =
-    let a = c .before .before .before .before .before .before .args in
-    let psi = c .before .before .before .before .before .anomaly-at in
-    no-point (a .initial) (a .tau) (psi .result) (sym (c .before .before .is-finite .ensures) ∙ c .before .if1 .left) (c .unevaluated-as .ensures)
-    ∙ ap (evaluatedAt (a .initial) (a .tau)) (psi .ensures)
+    let a = c .before .before .before .args in
+    c .evaluated-inner .ensures ∙ ap (evaluatedAt (a .initial) (a .tau)) (c .before .anomaly-at .ensures) ∙ above-zero (a .initial) (a .tau) (a .place) (omega arith)
 
 pub try-inner-spec : {M : Type 1} → statement M
 try-inner-spec =
     tie.close
-    (tie.spec
-    anomaly-at-requires
-    is-finite-requires
-    first-sums-requires
-    point-of-requires
-    returns
-    unevaluated-as-requires
-    returns-2)
+    (tie.spec unevaluated-as-requires returns anomaly-at-requires evaluated-inner-requires returns-2)

@@ -1,0 +1,34 @@
+-- What the sorts mean, said of document 01's own R: "R = ((r0·s1+σ0·s2)+μ·s3)−τ" at ψ, with "s1 = ψ·c1, s2 = (ψ·ψ)·c2, s3 = ((ψ·ψ)·ψ)·c3".
+use mathlib.Core.Path.{_≡_}
+use mathlib.Core.Bool.{Bool, true, false}
+use mathlib.Core.Logic.{_⊎_}
+use Prim.Native.Nat.{ℕ, _<_}
+use lib.Ieee.{Float, lt, eq, ne}
+use Rattle.bits.specs.Choice.{pick}
+use Rattle.bits.specs.Arithmetic.{_⊕_, _⊖_, _⊗_, n0}
+use Rattle.series.specs.Series.{coefficientsOf}
+use Rattle.series.specs.declared.figures.Anomaly.{Anomaly}
+use Rattle.series.specs.declared.figures.Seconds.{Seconds}
+use Rattle.search_points.specs.declared.figures.Initial.{Initial}
+use Rattle.search_points.specs.declared.figures.Sort.the-variants.{Short, Past, Exact}
+use Rattle.search_points.specs.Trial.{anomalyAt, trialAt}
+
+abbrev pub errorAt : Initial → Seconds → Anomaly → Float
+errorAt i tau psi =
+    let x = psi .0 in
+    let c = coefficientsOf (i .alpha) psi in
+    ((i .r0 ⊗ (x ⊗ c .c1) ⊕ i .sigma0 ⊗ ((x ⊗ x) ⊗ c .c2)) ⊕ i .mu ⊗ (((x ⊗ x) ⊗ x) ⊗ c .c3)) ⊖ tau .0
+
+-- "R with the sign opposite to τ"
+abbrev pub isOpposite : Seconds → Float → Bool
+isOpposite tau r = pick (lt (tau .0) n0) (lt n0 r) (lt r n0)
+
+-- The error at a place, which is that of the place's ψ.
+abbrev pub errorOfPlace : Initial → Seconds → (place : ℕ) → Float
+errorOfPlace i tau p = errorAt i tau (anomalyAt tau p)
+
+-- "place 0 is short; ψ or L not finite, or R NaN: unreadable; R = 0: exact; R with the sign opposite to τ: short; else past."
+pub record SortsMean (i : Initial) (tau : Seconds) (p : ℕ) : Type 0 where
+  pub exact : trialAt i tau p .sort ≡ Exact → eq (errorOfPlace i tau p) n0 ≡ true
+  pub short : (r : Float) → trialAt i tau p .sort ≡ Short r → (p ≡ 0) ⊎ ((r ≡ errorOfPlace i tau p) × (isOpposite tau r ≡ true))
+  pub past : (r : Float) → trialAt i tau p .sort ≡ Past r → (r ≡ errorOfPlace i tau p) × (ne r r ≡ false) × (eq r n0 ≡ false) × (isOpposite tau r ≡ false)
