@@ -1,2 +1,3 @@
 -- Layer 3, its proposals.
 pub mod Proposals
+pub mod ProposalCases

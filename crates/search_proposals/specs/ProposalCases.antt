@@ -1,0 +1,48 @@
+-- The proposals of two rounds, evaluated from the definitions; the places come from an independent program. The state is μ = 398600.4418 km^3/s^2, position
+-- (-2500, -4000, 2000) km, velocity (-6.8, -4.4, 8.7) km/s, and τ = 1800 s.
+use Prim.Native.Nat.{ℕ}
+use mathlib.Core.Path.{_≡_, refl}
+use mathlib.Core.Bool.{Bool, true, false}
+use lib.Ieee.{Float, binary64, ofBits, toBits, neg, add, sub, mul, div, lt, eq, ne}
+use Rattle.series.specs.Series.{beyondOne, reducedFrom, nested, c4Of, c5Of, atReduced, doublings, quotientsOf, coefficientsOf, sumsOf}
+use Rattle.series.specs.declared.figures.Seconds.{Seconds}
+use Rattle.search_points.specs.declared.figures.Initial.{Initial}
+use Rattle.search_points.specs.Residual.{timeErrorOf, radiusOf}
+use Rattle.search_points.specs.Trial.{anomalyAt, sortOf, evaluatedAt, trialAt}
+use Rattle.search_rule.specs.declared.pair.End.{End}
+use Rattle.search_rule.specs.declared.pair.Pair.{Pair}
+use Rattle.search_rule.specs.Rule.{pairOf}
+use Rattle.search_proposals.specs.Proposals.{offeredAt, byRadius, byInterval, byEnds, proposed}
+
+abbrev state : Initial
+state =
+    record {
+      mu = ofBits binary64 0x41185421c467381d;
+      r0 = ofBits binary64 0x40b40379b2b2ef50;
+      sigma0 = ofBits binary64 0x40e9640000000000;
+      alpha = ofBits binary64 0xc02c9d883eb95380;
+    }
+
+abbrev interval : Seconds
+interval = record { 0 = ofBits binary64 0x409c200000000000 }
+
+abbrev end : (place error : ℕ) → End
+end place error = record { place = place; error = ofBits binary64 error }
+
+-- A pair by its two ends, of which the past one was tried last, or the short one.
+abbrev pair : (short past : End) (last : Bool) (place : ℕ) → Pair
+pair short past last place = pairOf short past last (trialAt state interval place)
+
+-- The first inner round: the first proposal fits, and so does the second, which is another place.
+first-fits :
+    let s = pair (end 0x3fb67c17c4c5e46e 0xc0916af043b07380) (end 0x3fc67c17c4c5e46e 0x406414ea8f189d10) true 0x3fc67c17c4c5e46e in
+    proposed state interval s ≡ 0x3fc55e91b0ee662a
+unfolding ofBits toBits neg add sub mul div lt eq ne beyondOne reducedFrom nested c4Of c5Of atReduced doublings quotientsOf coefficientsOf sumsOf timeErrorOf radiusOf anomalyAt sortOf evaluatedAt trialAt offeredAt byRadius byInterval byEnds proposed
+first-fits = refl
+
+-- The second, from the short end: the first proposal does not fit, and the second does.
+second-fits :
+    let s = pair (end 0x3fbded54bada254c 0xc087edac395c6302) (end 0x3fc55e91b0ee662a 0x400c6a881b92f800) false 0x3fbded54bada254c in
+    (byRadius state interval s ≡ 0) × (proposed state interval s ≡ 0x3fc5543516a2e674)
+unfolding ofBits toBits neg add sub mul div lt eq ne beyondOne reducedFrom nested c4Of c5Of atReduced doublings quotientsOf coefficientsOf sumsOf timeErrorOf radiusOf anomalyAt sortOf evaluatedAt trialAt offeredAt byRadius byInterval byEnds proposed
+second-fits = (refl, refl)
