@@ -12,7 +12,7 @@ use Rattle.search_rule.specs.declared.pair.Pair.{Pair}
 use Rattle.search_rule.specs.declared.pair.Next.{Next}
 use Rattle.search_rule.specs.declared.pair.Next.the-variants as next
 use Rattle.search_rule.specs.Rule.{Point, Trials, Proposal, Ending, between, exact, unreadable, allShort, History, tries, ends, pointsIn, endingOf}
-use Rattle.search_rule.specs.Rule.{Part, onward, endAt, Outward, on, stop, outwardStep, goingOn, outward, outwardPart, attempt, isWide, halfway}
+use Rattle.search_rule.specs.Rule.{Sequel, onward, endAt, Outward, on, stop, outwardStep, goingOn, outward, outwardPart, attempt, isWide, halfway}
 use Rattle.search_rule.specs.Rule.{halving, isInside, round, inward, history, nextOf, counted}
 
 abbrev pub points : History → ℕ
@@ -44,7 +44,7 @@ pick-points : (b : Bool) (x y : History) (k : ℕ) → points x ≤ k → points
 pick-points true x y k h g = h
 pick-points false x y k h g = g
 
-pub onward-points : (k : ℕ) (tried : List Point) (h : History) (f : Part) → ((l : List Point) (s : Pair) → points (f l s) ≤ k)
+pub onward-points : (k : ℕ) (tried : List Point) (h : History) (f : Sequel) → ((l : List Point) (s : Pair) → points (f l s) ≤ k)
     → points (onward tried h f) ≤ points h + k
 unfolding pointsIn onward
 onward-points k tried (tries p h) f g = omega (arith, onward-points k (tried ++ (p ∷ [])) h f g)

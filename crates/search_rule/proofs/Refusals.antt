@@ -13,7 +13,7 @@ use Rattle.search_points.specs.declared.figures.Trial.{Trial}
 use Rattle.search_rule.specs.declared.pair.End.{End}
 use Rattle.search_rule.specs.declared.pair.Pair.{Pair}
 use Rattle.search_rule.specs.Rule.{Point, Trials, pointAt, Proposal, Ending, between, exact, unreadable, allShort, History, tries, ends, pointsIn}
-use Rattle.search_rule.specs.Rule.{endingOf, Part, onward, endAt, outwardBy, goingOn, outward, outwardPart, movedBy, attempt, gap, isWide, halfway}
+use Rattle.search_rule.specs.Rule.{endingOf, Sequel, onward, endAt, outwardBy, goingOn, outward, outwardPart, movedBy, attempt, gap, isWide, halfway}
 use Rattle.search_rule.specs.Rule.{halving, isInside, round, inward, history}
 use Rattle.search_rule.specs.RulePromise.{IsShort, outPoint, ShortBefore, AllOutwardShort, FirstNotShort, EndsSo, SomeUnreadable, LastUnreadable}
 use Rattle.search_rule.proofs.Counts.{points}
@@ -28,7 +28,7 @@ NotAllShort unreadable = Unit {0}
 NotAllShort allShort = ⊥
 
 -- All of n are short: the part ends so after n points, and no other follows.
-outward-short : (ev : Trials) (n place : ℕ) (short : End) (tried : List Point) (f : Part) → ShortBefore ev place n
+outward-short : (ev : Trials) (n place : ℕ) (short : End) (tried : List Point) (f : Sequel) → ShortBefore ev place n
     → (endingOf (onward tried (outward ev n place short) f) ≡ allShort) × (points (onward tried (outward ev n place short) f) ≡ n)
 unfolding endingOf pointsIn onward outward
 outward-short ev zero place short tried f h = (refl, refl)
@@ -69,7 +69,7 @@ inward-not ev pr left k tried s e =
     subst (NoWider NotAllShort (1 + gap s)) e
     (inward-no-wider NotAllShort ev (λ s' p _ _ _. moved-not (ev p .sort) s' p (ev p)) pr left k tried s (gap s) tt (omega arith))
 
-onward-not : (tried : List Point) (h : History) (f : Part) → ((l : List Point) (s : Pair) → endingOf (f l s) ≡ allShort → ⊥)
+onward-not : (tried : List Point) (h : History) (f : Sequel) → ((l : List Point) (s : Pair) → endingOf (f l s) ≡ allShort → ⊥)
     → endingOf (onward tried h f) ≡ allShort → endingOf h ≡ allShort
 unfolding endingOf onward
 onward-not tried (tries p h) f n e = onward-not (tried ++ (p ∷ [])) h f n e
@@ -157,7 +157,7 @@ fair-last (tries p h) f e = ⊎-elim (λ x. one (x .0) (x .1)) (λ x. more (x .0
 fair-last (ends e) f u = absurd (subst NotUnreadable u f)
 
 -- The history is such a one.
-onward-fair : (tried : List Point) (h : History) (f : Part) → Fair h → ((l : List Point) (s : Pair) → Fair (f l s)) → Fair (onward tried h f)
+onward-fair : (tried : List Point) (h : History) (f : Sequel) → Fair h → ((l : List Point) (s : Pair) → Fair (f l s)) → Fair (onward tried h f)
 unfolding onward
 onward-fair tried (tries p h) f x g = follows-so (p .trial .sort) (λ y. onward-fair (tried ++ (p ∷ [])) h f y g) (λ e. rw e) x
 onward-fair tried (ends (between s)) f x g = g tried s

@@ -17,7 +17,7 @@ use Rattle.search_points.specs.declared.figures.Sort.the-variants.{Short, Past,
 use Rattle.search_rule.specs.declared.pair.End.{End}
 use Rattle.search_rule.specs.declared.pair.Pair.{Pair}
 use Rattle.search_rule.specs.Rule.{Point, Trials, Proposal, Ending, between, exact, unreadable, allShort, History, tries, ends, pointsIn, endingOf}
-use Rattle.search_rule.specs.Rule.{Part, onward, endAt, movedBy, moved, attempt, gap, isWide, halfway, halving, isInside, round, inward, history}
+use Rattle.search_rule.specs.Rule.{Sequel, onward, endAt, movedBy, moved, attempt, gap, isWide, halfway, halving, isInside, round, inward, history}
 use Rattle.search_rule.specs.Rule.{outward, outwardPart, outwardBy, goingOn}
 use Rattle.search_rule.specs.RulePromise.{IsShort, historyIn}
 use Rattle.search_rule.proofs.Counts.{points, onward-points, outward-points, inward-points}
@@ -45,7 +45,7 @@ inside-is s p e =
 
 -- ---- What every point that is tried between the two ends keeps, a round and the rounds keep; and the gap shrinks.
 module _ (K : Ending → Type 0) where
-  pub onward-no-wider : (g g' : ℕ) (tried : List Point) (h : History) (f : Part) → NoWider K g (endingOf h)
+  pub onward-no-wider : (g g' : ℕ) (tried : List Point) (h : History) (f : Sequel) → NoWider K g (endingOf h)
       → ((l : List Point) (s : Pair) → K (between s) → gap s ≤ g → NoWider K g' (endingOf (f l s))) → NoWider K g' (endingOf (onward tried h f))
   unfolding endingOf onward
   onward-no-wider g g' tried (tries p h) f x next = onward-no-wider g g' (tried ++ (p ∷ [])) h f x next
@@ -111,7 +111,7 @@ abbrev Any : Ending → Type 0
 Any e = Unit {0}
 
 -- What follows a part hangs on nothing but the points tried by its end and the pair that it ends with.
-pub onward-same : (tried tried' : List Point) (h : History) (f f' : Part)
+pub onward-same : (tried tried' : List Point) (h : History) (f f' : Sequel)
     → ((s : Pair) → endingOf h ≡ between s → f (tried ++ pointsIn h) s ≡ f' (tried' ++ pointsIn h) s) → onward tried h f ≡ onward tried' h f'
 unfolding endingOf pointsIn onward
 onward-same tried tried' (tries p h) f f' e =

@@ -17,7 +17,7 @@ use Rattle.search_rule.specs.declared.pair.Pair.{Pair}
 use Rattle.search_rule.specs.declared.pair.Next.{Next}
 use Rattle.search_rule.specs.declared.pair.Next.the-variants as next
 use Rattle.search_rule.specs.declared.pair.Step.the-variants as step
-use Rattle.search_rule.specs.Rule.{Point, Trials, Proposal, between, exact, unreadable, allShort, History, tries, ends, Part, onward, Outward, on}
+use Rattle.search_rule.specs.Rule.{Point, Trials, Proposal, between, exact, unreadable, allShort, History, tries, ends, Sequel, onward, Outward, on}
 use Rattle.search_rule.specs.Rule.{stop, outwardStep, goingOn, outward, attempt, gap, isWide, halfway, halving, isInside, roundFrom, round, inward}
 use Rattle.search_rule.specs.Rule.{counted, stepOf}
 use Rattle.search_rule.proofs.Counts.{points, used, used-is}
@@ -35,7 +35,7 @@ after (next.Unreadable n) f = next.Unreadable n
 after (next.AllShort n) f = next.AllShort n
 
 -- The next part is f, whatever was tried.
-pub counted-onward : (n : ℕ) (tried : List Point) (h : History) (f : Part) (g : Pair → History) → ((l : List Point) (s : Pair) → f l s ≡ g s)
+pub counted-onward : (n : ℕ) (tried : List Point) (h : History) (f : Sequel) (g : Pair → History) → ((l : List Point) (s : Pair) → f l s ≡ g s)
     → counted n (onward tried h f) ≡ after (counted n h) g
 unfolding counted onward
 counted-onward n tried (tries p h) f g e = counted-onward (n + 1) (tried ++ (p ∷ [])) h f g e
@@ -45,7 +45,7 @@ counted-onward n tried (ends unreadable) f g e = refl
 counted-onward n tried (ends allShort) f g e = refl
 
 -- So the code goes on from what it has of a part.
-pub followed : {x : Next} (n : ℕ) (tried : List Point) (h : History) (f : Part) (g : Pair → History) → ((l : List Point) (s : Pair) → f l s ≡ g s)
+pub followed : {x : Next} (n : ℕ) (tried : List Point) (h : History) (f : Sequel) (g : Pair → History) → ((l : List Point) (s : Pair) → f l s ≡ g s)
     → x ≡ counted n h → after x g ≡ counted n (onward tried h f)
 followed n tried h f g e p = ap (λ (y : Next). after y g) p ∙ sym (counted-onward n tried h f g e)
 

@@ -52,11 +52,11 @@ unfoldable pub endingOf : History → Ending
 endingOf (tries p h) = endingOf h
 endingOf (ends e) = e
 
--- A part of a search that begins with a pair, and knows all points tried before it; and such a part after one that ended with a pair.
-abbrev pub Part : Type 0
-Part = (tried : List Point) → Pair → History
+-- The part of a search that follows one which ended with a pair, and knows all points tried before it; and the two as one.
+abbrev pub Sequel : Type 0
+Sequel = (tried : List Point) → Pair → History
 
-unfoldable pub onward : (tried : List Point) → History → Part → History
+unfoldable pub onward : (tried : List Point) → History → Sequel → History
 onward tried (tries p h) next = tries p (onward (tried ++ (p ∷ [])) h next)
 onward tried (ends (between s)) next = next tried s
 onward tried (ends (exact p)) next = ends (exact p)
@@ -138,11 +138,11 @@ isInside s place = ltb (s .short .place) place && ltb place (s .past .place)
 abbrev pub roundFrom : Trials → List Point → Pair → (proposed : ℕ) → History
 roundFrom ev tried s proposed = pick (isInside s proposed) (onward tried (attempt ev s proposed) (λ _. halving ev)) (halving ev s)
 
-unfoldable pub round : Trials → Proposal → (round : ℕ) → Part
+unfoldable pub round : Trials → Proposal → (round : ℕ) → Sequel
 round ev pr k tried s = roundFrom ev tried s (pr k tried s)
 
 -- With `left` rounds left, before the round k.
-unfoldable pub inward : Trials → Proposal → (left k : ℕ) → Part
+unfoldable pub inward : Trials → Proposal → (left k : ℕ) → Sequel
 inward ev pr zero k tried s = ends (between s)
 inward ev pr (suc left) k tried s = pick (isWide s) (onward tried (round ev pr k tried s) (inward ev pr left (k + 1))) (ends (between s))
 
