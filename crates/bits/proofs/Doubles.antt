@@ -1,18 +1,20 @@
 -- Words and the doubles of `lib.Ieee`: what the double of a word is, by its field.
 use mathlib.Core.Path.{_≡_, refl, sym, ap, _∙_, subst}
-use mathlib.Core.Bool.{Bool, true, false, not, cond, true≢false}
+use mathlib.Core.Bool.{Bool, true, false, not, cond, _&&_, _||_, Bool·beq, true≢false}
 use Prim.Native.Nat.{ℕ, zero, suc, _+_, _*_, _/_, _%_, _^_, _≤_, _<_}
-use native.Mathlib.Nat.{mul-one}
+use native.Mathlib.Nat.{mul-one, zero-mul}
 use native.Mathlib.Decide.{decLe, decLt}
 use native.Mathlib.Omega.{arith}
 use borrow.Author.Tests.{le-ltb, lt-leb, le-leb, leb-true, ne-eqb, eq-eqb}
 use lib.Dec.{T, leb, eqb}
-use lib.Ieee.{Float, nan, inf, fin, binary64, ne, isNan, nanBits, ofBits, ofFields, odd}
+use lib.Ieee.{Float, nan, inf, fin, binary64, eq, ne, isNan, nanBits, ofBits, ofFields, odd, up, down}
 use lib.Ieee.Bits.{nanBits-above, is-true}
 use lib.Ieee.Exact.{HasValue, odd-sign}
 use lib.Ieee.Scale.{finite}
-use lib.Ieee.Positive.{positive, positive-finite, positive-of-value}
+use lib.Ieee.Positive.{positive, den-pos, positive-finite, positive-of-value}
 use lib.Ieee.Compare.{nan-differs}
+use lib.Pow.{pow-pos}
+use Rattle.bits.specs.Arithmetic.{n0}
 use Rattle.bits.specs.Words.{fieldOf, units, scaled, infinity}
 use Rattle.bits.proofs.Units.{grows, small}
 
@@ -66,6 +68,44 @@ finite-by-field w = elim (decLe (fieldOf w) 2046) [
   | no g ↦
       let e : fieldOf w ≡ 2047 = omega arith in
       not-finite (leb (2 ^ 63) w) (fieldOf w) (w % 2 ^ 52) e ∙ sym (lt-leb (fieldOf w) 2046 (omega arith))
+]
+
+-- A word's double is zero exactly where nothing but its sign bit may be set.
+at-zero : (t : Bool) (n a c d : ℕ) → 0 < c → 0 < d → n * c ≡ a * d → eqb n 0 && (Bool·beq t false || eqb n 0) ≡ eqb a 0
+at-zero true zero zero c d p q h = refl
+at-zero false zero zero c d p q h = refl
+at-zero t zero (suc a) c (suc d) p q h = absurd (omega arith)
+at-zero t zero (suc a) c zero p q h = absurd (omega arith)
+at-zero t (suc n) zero (suc c) d p q h = absurd (omega arith)
+at-zero t (suc n) zero zero d p q h = absurd (omega arith)
+at-zero t (suc n) (suc a) c d p q h = rw (ne-eqb (suc n) 0 (λ e. omega arith), ne-eqb (suc a) 0 (λ e. omega arith))
+
+zero-by-value : (x : Float) (s : Bool) (a c : ℕ) → 0 < c → HasValue x s a c → eq x n0 ≡ eqb a 0
+unfolding eq ofBits
+zero-by-value nan s a c p v = absurd v
+zero-by-value (inf t) s a c p v = absurd v
+zero-by-value (fin t m e) s a c p v = rw (zero-mul (down e)) (at-zero t (m * up e * 1) a c (down e) p (den-pos (fin t m e)) (omega (arith, v .1)))
+
+not-finite-not-zero : (x : Float) → finite x ≡ false → eq x n0 ≡ false
+unfolding eq ofBits
+not-finite-not-zero nan h = refl
+not-finite-not-zero (inf s) h = refl
+not-finite-not-zero (fin s m e) h = absurd (true≢false h)
+
+scaled-zero : (x t : ℕ) → eqb (scaled x t) 0 ≡ eqb (x * 2 ^ 52 + t) 0
+scaled-zero zero t = let e : t ≡ 0 * 2 ^ 52 + t = omega arith in ap (λ (n : ℕ). eqb n 0) e
+scaled-zero (suc x) t = ne-eqb ((2 ^ 52 + t) * 2 ^ x) 0 (λ e. omega (arith, pow-pos x)) ∙ sym (ne-eqb (suc x * 2 ^ 52 + t) 0 (λ e. omega arith))
+
+pub zero-by-word : (w : ℕ) → eq (ofBits binary64 w) n0 ≡ eqb (w % 2 ^ 63) 0
+unfolding ofBits
+zero-by-word w = elim (decLe (fieldOf w) 2046) [
+  | yes l ↦
+      let e : fieldOf w * 2 ^ 52 + w % 2 ^ 52 ≡ w % 2 ^ 63 = omega arith in
+      zero-by-value (ofBits binary64 w) (leb (2 ^ 63) w) (scaled (fieldOf w) (w % 2 ^ 52)) (2 ^ 1074) (pow-pos 1074) (by-field (leb (2 ^ 63) w) (fieldOf w) (w % 2 ^ 52) l)
+      ∙ scaled-zero (fieldOf w) (w % 2 ^ 52) ∙ ap (λ (n : ℕ). eqb n 0) e
+  | no g ↦
+      let z : w % 2 ^ 63 ≡ 0 → ⊥ = λ e. omega arith in
+      not-finite-not-zero (ofBits binary64 w) (finite-by-field w ∙ lt-leb (fieldOf w) 2046 (omega arith)) ∙ sym (ne-eqb (w % 2 ^ 63) 0 z)
 ]
 
 -- `units` is what the double of a word is, in units of 2 ^ -1074: the words of this project and the doubles of the logic are the same numbers.

@@ -7,4 +7,5 @@ pub mod Computed
 pub mod Exists
 pub mod Doubles
 pub mod RootLaws
+pub mod RunLaws
 pub mod OneAnswers

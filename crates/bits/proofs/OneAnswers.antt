@@ -6,12 +6,22 @@ use Rattle.bits.proofs.words.kind_of.Kinds as kind-of-kinds
 use Rattle.bits.proofs.words.kind_of.Reads as kind-of-reads
 use Rattle.bits.proofs.words.figure_of.Kinds as figure-of-kinds
 use Rattle.bits.proofs.words.figure_of.Reads as figure-of-reads
+use Rattle.bits.proofs.words.is_finite_word.Kinds as is-finite-word-kinds
+use Rattle.bits.proofs.words.is_finite_word.Reads as is-finite-word-reads
 use Rattle.bits.proofs.words.is_finite.Kinds as is-finite-kinds
 use Rattle.bits.proofs.words.is_finite.Reads as is-finite-reads
 use Rattle.bits.proofs.words.word_of.Kinds as word-of-kinds
 use Rattle.bits.proofs.words.word_of.Reads as word-of-reads
 use Rattle.bits.proofs.words.place_of.Kinds as place-of-kinds
 use Rattle.bits.proofs.words.place_of.Reads as place-of-reads
+use Rattle.bits.proofs.words.magnitude_of.Kinds as magnitude-of-kinds
+use Rattle.bits.proofs.words.magnitude_of.Reads as magnitude-of-reads
+use Rattle.bits.proofs.runs.first_of.Kinds as first-of-kinds
+use Rattle.bits.proofs.runs.first_of.Reads as first-of-reads
+use Rattle.bits.proofs.runs.has.Kinds as has-kinds
+use Rattle.bits.proofs.runs.has.Reads as has-reads
+use Rattle.bits.proofs.runs.copy_words.Kinds as copy-words-kinds
+use Rattle.bits.proofs.runs.copy_words.Reads as copy-words-reads
 use Rattle.bits.proofs.root.root_of.Kinds as root-of-kinds
 use Rattle.bits.proofs.root.root_of.Reads as root-of-reads
 use Rattle.bits.proofs.root.root_of_figure.Kinds as root-of-figure-kinds
@@ -23,6 +33,9 @@ kind-of-one κs a x y v w p q = (p ∙ sym q, refl)
 pub figure-of-one : OneAnswer 0 figure-of-kinds.ps figure-of-kinds.r figure-of-reads.Post
 figure-of-one κs a x y v w p q = (p ∙ sym q, refl)
 
+pub is-finite-word-one : OneAnswer 0 is-finite-word-kinds.ps is-finite-word-kinds.r is-finite-word-reads.Post
+is-finite-word-one κs a x y v w p q = (p ∙ sym q, refl)
+
 pub is-finite-one : OneAnswer 0 is-finite-kinds.ps is-finite-kinds.r is-finite-reads.Post
 is-finite-one κs a x y v w p q = (p ∙ sym q, refl)
 
@@ -31,6 +44,18 @@ word-of-one κs a x y v w p q = (p ∙ sym q, refl)
 
 pub place-of-one : OneAnswer 0 place-of-kinds.ps place-of-kinds.r place-of-reads.Post
 place-of-one κs a x y v w p q = (p ∙ sym q, refl)
+
+pub magnitude-of-one : OneAnswer 0 magnitude-of-kinds.ps magnitude-of-kinds.r magnitude-of-reads.Post
+magnitude-of-one κs a x y v w p q = (p ∙ sym q, refl)
+
+pub first-of-one : OneAnswer 1 first-of-kinds.ps first-of-kinds.r first-of-reads.Post
+first-of-one κs a x y v w p q = (p ∙ sym q, refl)
+
+pub has-one : OneAnswer 1 has-kinds.ps has-kinds.r has-reads.Post
+has-one κs a x y v w p q = (p ∙ sym q, refl)
+
+pub copy-words-one : OneAnswer 2 copy-words-kinds.ps copy-words-kinds.r copy-words-reads.Post
+copy-words-one κs a x y v w p q = (refl, λ i. (tt, ((p ∙ sym q) i, tt)))
 
 pub root-of-one : OneAnswer 0 root-of-kinds.ps root-of-kinds.r root-of-reads.Post
 root-of-one κs a x y v w p q =

@@ -1,4 +1,4 @@
--- Some roots, evaluated from the definitions. Document 01's marked ones are in the table of crate `results`.
+-- Some roots, evaluated from the definitions. Document 01's marked ones are in the table of crate `files_results`.
 use mathlib.Core.Path.{_≡_, refl}
 use Prim.Native.Nat.{ℕ}
 use lib.Ieee.{ofBits, toBits, div}

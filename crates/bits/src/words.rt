@@ -1,7 +1,7 @@
 // A double crosses every border of this project as its 64-bit word: a sign bit, 11 bits of exponent field, 52 digits.
 ghost use mathlib.Core.Path.{_≡_};
-ghost use lib.Ieee.{binary64, toBits};
-ghost use Rattle.bits.specs.Arithmetic.{isFinite};
+ghost use lib.Ieee.{binary64, ofBits, toBits};
+ghost use Rattle.bits.specs.Arithmetic.{isFinite, magnitude};
 ghost use Rattle.bits.specs.Words.{kindOf, figureOf, placeOf};
 
 // The weight of a word's sign bit.
@@ -45,6 +45,17 @@ pub fn figure_of(word: u64) -> Figure
     }
 }
 
+// Whether the double of a word is finite, by its exponent field: no double is made of it.
+pub fn is_finite_word(word: u64) -> bool
+    ensures { λ r. ⌜ r ≡ isFinite (ofBits binary64 word) ⌝ }
+{
+    match kind_of(word) {
+        Kind::ZeroOrSubnormal => true,
+        Kind::Normal => true,
+        Kind::NotFinite => false,
+    }
+}
+
 // Whether a double is neither a NaN nor an infinity.
 pub fn is_finite(x: f64) -> bool
     ensures { λ r. ⌜ r ≡ isFinite x ⌝ }
@@ -67,4 +78,14 @@ pub fn place_of(x: f64) -> u64
     ensures { λ r. ⌜ r ≡ placeOf x ⌝ }
 {
     word_of(x) % SIGN
+}
+
+// |x|: the sign bit cleared.
+pub fn magnitude_of(x: f64) -> f64
+    ensures { λ r. ⌜ r ≡ magnitude x ⌝ }
+{
+    if x != x {
+        return x;
+    }
+    f64::from_bits(f64::to_bits(x) % SIGN)
 }

@@ -4,6 +4,7 @@ use mathlib.Core.List.{List, [], _∷_, map}
 use Prim.Native.Nat.{ℕ}
 use lib.Ieee.{binary64, add, sub, mul, div, neg, lt, eq, ne, ofBits, toBits}
 use Rattle.bits.specs.Words.{wordsOf}
+use Rattle.bits.specs.Runs.{firstOf, has}
 use Rattle.bits.specs.Root.{rootRefusalOf, rootWordOf, rootOf}
 use Rattle.series.specs.declared.figures.Coefficients.{Coefficients}
 use Rattle.series.specs.Series.{beyondOne, reducedFrom, nested, c4Of, c5Of, atReduced, doublings, quotientsOf, coefficientsOf, sumsOf}
@@ -11,9 +12,8 @@ use Rattle.search_points.specs.Residual.{timeErrorOf, radiusOf}
 use Rattle.search_points.specs.Trial.{anomalyAt, sortOf, evaluatedAt, trialAt}
 use Rattle.search_rule.specs.Rule.{onward, outward, halving, round, inward, history, counted}
 use Rattle.search.specs.Search.{searchOf}
-use Rattle.states_arcs.specs.Finite.{allFinite, anyZero}
-use Rattle.states_arcs.specs.Results.{factorsOf, endOf, arcOf, accelerationOf, resultsOf, divisorsOf, figuresOf, endedOf}
-use Rattle.states_start.specs.Words.{firstNotFinite, readOf}
+use Rattle.states_arcs.specs.Results.{factorsOf, endStateOf, arcOf, accelerationOf, resultsOf, figuresOf, endedOf}
+use Rattle.states_start.specs.Given.{readOf}
 use Rattle.states_start.specs.Initial.{dot, begunOf, firstStepOf}
 use Rattle.states.specs.Call.{refused, answered, reachedBy, reachedFrom, reachedOrbit, reachedOf, endedAnswer, propagateOf, answerWords}
 use Rattle.files_words.specs.Words.{written}
@@ -103,5 +103,5 @@ table =
 
 -- Each case of the table gives what it must.
 pub marked : map (λ (c : Case). given (c .asked)) table ≡ map (λ (c : Case). c .must) table
-unfolding resultFile readingOf rowsOf rowOf requestWords eightWords tauWord tauSince propagateOf answerWords reachedOf reachedOrbit reachedFrom reachedBy endedAnswer answered refused readOf firstNotFinite begunOf dot firstStepOf endedOf figuresOf resultsOf accelerationOf arcOf endOf factorsOf divisorsOf allFinite anyZero searchOf history inward round halving outward onward counted trialAt evaluatedAt sortOf anomalyAt timeErrorOf radiusOf coefficientsOf sumsOf quotientsOf doublings atReduced c4Of c5Of nested reducedFrom beyondOne rootOf rootWordOf written add sub mul div neg lt eq ne ofBits toBits
+unfolding resultFile readingOf rowsOf rowOf requestWords eightWords tauWord tauSince propagateOf answerWords reachedOf reachedOrbit reachedFrom reachedBy endedAnswer answered refused readOf begunOf dot firstStepOf endedOf figuresOf resultsOf accelerationOf arcOf endStateOf factorsOf has firstOf searchOf history inward round halving outward onward counted trialAt evaluatedAt sortOf anomalyAt timeErrorOf radiusOf coefficientsOf sumsOf quotientsOf doublings atReduced c4Of c5Of nested reducedFrom beyondOne rootOf rootWordOf written add sub mul div neg lt eq ne ofBits toBits
 marked = refl

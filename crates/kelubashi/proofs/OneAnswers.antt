@@ -21,13 +21,13 @@ pub propagate-one : OneAnswer 1 propagate-kinds.ps propagate-kinds.r propagate-r
 propagate-one κs a x y v w p q = (p .0 ∙ sym (q .0), λ i. (tt, (tt, (tt, (tt, (tt, (tt, (tt, (tt, ((p .1 ∙ sym (q .1)) i, tt))))))))))
 
 pub partials-one : OneAnswer 2 partials-kinds.ps partials-kinds.r partials-reads.Post
-partials-one κs a x y v w p q = (p .0 ∙ sym (q .0), λ i. (tt, (tt, (tt, (tt, (tt, (tt, (tt, (tt, ((p .1 ∙ sym (q .1)) i, ((p .2 ∙ sym (q .2)) i, tt)))))))))))
+partials-one κs a x y v w p q = (p .0 ∙ sym (q .0), λ i. (tt, (tt, (tt, (tt, (tt, (tt, (tt, (tt, ((p .1 .0 ∙ sym (q .1 .0)) i, ((p .1 .1 ∙ sym (q .1 .1)) i, tt)))))))))))
 
 pub read-one : OneAnswer 2 read-kinds.ps read-kinds.r read-reads.Post
 read-one κs a x y v w p q = (p .0 ∙ sym (q .0), λ i. (tt, ((p .1 ∙ sym (q .1)) i, tt)))
 
 pub write-one : OneAnswer 5 write-kinds.ps write-kinds.r write-reads.Post
-write-one κs a x y v w p q = (p .0 ∙ sym (q .0), λ i. (tt, (tt, (tt, ((p .2 ∙ sym (q .2)) i, ((p .1 ∙ sym (q .1)) i, tt))))))
+write-one κs a x y v w p q = (p .0 ∙ sym (q .0), λ i. (tt, (tt, (tt, ((p .1 .1 ∙ sym (q .1 .1)) i, ((p .1 .0 ∙ sym (q .1 .0)) i, tt))))))
 
 pub results-one : OneAnswer 3 results-kinds.ps results-kinds.r results-reads.Post
-results-one κs a x y v w p q = (p .0 ∙ sym (q .0), λ i. (tt, ((p .2 ∙ sym (q .2)) i, ((p .1 ∙ sym (q .1)) i, tt))))
+results-one κs a x y v w p q = (p .0 ∙ sym (q .0), λ i. (tt, ((p .1 .1 ∙ sym (q .1 .1)) i, ((p .1 .0 ∙ sym (q .1 .0)) i, tt))))

@@ -1,27 +1,31 @@
 -- Every entry point returns a refusal's number, or 0, and writes its whole answer run, refused or not: the run is the answer itself.
 -- 60, the project's own number, stands before all else: the answer run is not exactly as long as the answer, and nothing is written.
+use mathlib.Core.Bool.{not}
 use mathlib.Core.List.{List, [], _∷_}
 use Prim.Native.Nat.{ℕ}
 use lib.Dec.{eqb}
 use lib.ListN.{length, getD}
 use Rattle.bits.specs.Choice.{pick}
+use Rattle.files_reader.specs.Reader.{readingOf}
 use Rattle.files_reader.specs.declared.Reading.{Reading}
 use Rattle.files_reader.specs.declared.Reading.the-variants as reading
+use Rattle.files.specs.Writer.{writingOf, roomOf}
 use Rattle.files.specs.declared.Writing.{Writing}
 use Rattle.files.specs.declared.Writing.the-variants as writing
+use Rattle.files_results.specs.Results.{outcomeOf}
 use Rattle.files_results.specs.declared.Outcome.{Outcome}
 
 -- What is returned, for an answer of n words and a run as it was handed in.
 abbrev pub returned : ℕ → List ℕ → ℕ → ℕ
-returned n run refusal = pick (eqb (length run) n) refusal 60
+returned n run refusal = pick (not (eqb (length run) n)) 60 refusal
 
--- What the run holds afterwards.
-abbrev pub written : ℕ → List ℕ → List ℕ → List ℕ
-written n run answer = pick (eqb (length run) n) answer run
+-- What the answer run holds afterwards.
+abbrev pub answerAfter : ℕ → List ℕ → List ℕ → List ℕ
+answerAfter n run answer = pick (not (eqb (length run) n)) run answer
 
 -- What a lent run behind the answer run holds afterwards: 60 leaves it as it was.
 abbrev pub lentBehind : ℕ → List ℕ → (lent after : List ℕ) → List ℕ
-lentBehind n run lent after = pick (eqb (length run) n) after lent
+lentBehind n run lent after = pick (not (eqb (length run) n)) lent after
 
 -- The eight words of a call, in order.
 abbrev pub orbitWords : (mu x y z vx vy vz tau : ℕ) → List ℕ
@@ -39,10 +43,27 @@ unfoldable pub writingWords : Writing → List ℕ
 writingWords (writing.Length length) = 0 ∷ length ∷ []
 writingWords (writing.Refused number place) = number ∷ place ∷ []
 
--- The number of an answer is its first word.
-abbrev pub firstOf : List ℕ → ℕ
-firstOf words = getD words 0 0
-
 -- The results' answer: number, then the length written or needed.
 abbrev pub outcomeWords : Outcome → List ℕ
 outcomeWords o = o .number ∷ o .length ∷ []
+
+-- The number of an answer is its first word.
+abbrev pub numberIn : List ℕ → ℕ
+numberIn words = getD words 0 0
+
+-- The answers of the reader and of the results, as words.
+abbrev pub readWords : (file : List ℕ) → List ℕ
+readWords file = readingWords (readingOf file)
+
+abbrev pub resultsWords : (file room : List ℕ) → List ℕ
+resultsWords file room = outcomeWords (outcomeOf file room)
+
+-- Of the writer: what is returned, and what the answer run and the room hold afterwards.
+abbrev pub writeNumber : (run centres states requests room : List ℕ) → ℕ
+writeNumber run centres states requests room = returned 2 run (numberIn (writingWords (writingOf centres states requests room)))
+
+abbrev pub writeAnswer : (run centres states requests room : List ℕ) → List ℕ
+writeAnswer run centres states requests room = answerAfter 2 run (writingWords (writingOf centres states requests room))
+
+abbrev pub writeRoom : (run centres states requests room : List ℕ) → List ℕ
+writeRoom run centres states requests room = lentBehind 2 run room (roomOf centres states requests room)

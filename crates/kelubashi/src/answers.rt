@@ -1,21 +1,8 @@
-// The words of an answer, and their way into an answer run.
+// The words of what the reader and the writer answer.
 ghost use mathlib.Core.Path.{_≡_};
-ghost use lib.ListN.{length};
 ghost use Rattle.kelubashi.specs.Face.{readingWords, writingWords};
 use files::Writing;
 use files_reader::Reading;
-
-// Writes an answer's words to a run of their length.
-pub fn put(words: &[u64], run: &mut [u64])
-    requires { ⌜ length (now run) ≡ length (now words) ⌝ }
-    ensures { λ _. ⌜ now (run .exit) ≡ now (words .entry) ⌝ }
-{
-    let mut k = 0usize;
-    while k < words.len() {
-        run[k] = words[k];
-        k += 1;
-    }
-}
 
 // The eight words of what the reader answers: number, place, then the place and the count of centres, states and requests.
 pub fn reading_words(reading: Reading) -> [u64; 8]

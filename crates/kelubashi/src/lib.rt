@@ -6,23 +6,22 @@ ghost use Rattle.bits.specs.Root.{rootRefusalOf, rootWordOf};
 ghost use Rattle.states.specs.Call.{answerWords, propagateOf};
 ghost use Rattle.states.specs.WithPartials.{partialsOf, lentOf};
 ghost use Rattle.files_words.specs.Words.{put};
-ghost use Rattle.files_reader.specs.Reader.{readingOf};
-ghost use Rattle.files.specs.Writer.{writingOf, roomOf};
 ghost use Rattle.files_results.specs.Results.{outcomeOf, resultFile};
-ghost use Rattle.kelubashi.specs.Face.{returned, written, orbitWords, lentBehind, readingWords, writingWords, outcomeWords, firstOf};
+ghost use Rattle.kelubashi.specs.Face.{returned, answerAfter, orbitWords, lentBehind, readWords, resultsWords, numberIn, writeNumber, writeAnswer, writeRoom};
 
 mod answers;
 
 // The square root of the double of a word, to an answer run of one word.
 #[no_mangle]
 pub extern "C" fn kelubashi1_root(word: u64, answer: &mut [u64]) -> u64
-    ensures { λ r. ⌜ (r ≡ returned 1 (now (answer .entry)) (rootRefusalOf word)) × (now (answer .exit) ≡ written 1 (now (answer .entry)) (rootWordOf word ∷ [])) ⌝ }
+    ensures number { λ r. ⌜ r ≡ returned 1 (now (answer .entry)) (rootRefusalOf word) ⌝ }
+    ensures answer { λ _. ⌜ now (answer .exit) ≡ answerAfter 1 (now (answer .entry)) (rootWordOf word ∷ []) ⌝ }
 {
     if answer.len() != 1 {
         return 60;
     }
     let r = bits::root::root_of(word);
-    answer[0] = r.word;
+    bits::copy_words(&[r.word], answer);
     r.refusal
 }
 
@@ -39,14 +38,15 @@ pub extern "C" fn kelubashi1_propagate(
     tau: u64,
     answer: &mut [u64],
 ) -> u64
-    ensures { λ r. ⌜ (r ≡ returned 15 (now (answer .entry)) (propagateOf (orbitWords mu x y z vx vy vz tau) .refusal)) × (now (answer .exit) ≡ written 15 (now (answer .entry)) (answerWords (propagateOf (orbitWords mu x y z vx vy vz tau)))) ⌝ }
+    ensures number { λ r. ⌜ r ≡ returned 15 (now (answer .entry)) (propagateOf (orbitWords mu x y z vx vy vz tau) .refusal) ⌝ }
+    ensures answer { λ _. ⌜ now (answer .exit) ≡ answerAfter 15 (now (answer .entry)) (answerWords (propagateOf (orbitWords mu x y z vx vy vz tau))) ⌝ }
 {
     if answer.len() != 15 {
         return 60;
     }
-    let a = states::call::propagate([mu, x, y, z, vx, vy, vz, tau]);
-    let words = states::answer::words_of(a);
-    answers::put(&words, answer);
+    let a = states::propagate([mu, x, y, z, vx, vy, vz, tau]);
+    let words = states::words_of(a);
+    bits::copy_words(&words, answer);
     a.refusal
 }
 
@@ -64,27 +64,30 @@ pub extern "C" fn kelubashi1_partials(
     answer: &mut [u64],
     run: &mut [u64],
 ) -> u64
-    ensures { λ r. ⌜ (r ≡ returned 15 (now (answer .entry)) (partialsOf (orbitWords mu x y z vx vy vz tau) (now (run .entry)) .refusal)) × (now (answer .exit) ≡ written 15 (now (answer .entry)) (answerWords (partialsOf (orbitWords mu x y z vx vy vz tau) (now (run .entry))))) × (now (run .exit) ≡ lentBehind 15 (now (answer .entry)) (now (run .entry)) (lentOf (orbitWords mu x y z vx vy vz tau) (now (run .entry)))) ⌝ }
+    ensures number { λ r. ⌜ r ≡ returned 15 (now (answer .entry)) (partialsOf (orbitWords mu x y z vx vy vz tau) (now (run .entry)) .refusal) ⌝ }
+    ensures answer { λ _. ⌜ now (answer .exit) ≡ answerAfter 15 (now (answer .entry)) (answerWords (partialsOf (orbitWords mu x y z vx vy vz tau) (now (run .entry)))) ⌝ }
+    ensures lent { λ _. ⌜ now (run .exit) ≡ lentBehind 15 (now (answer .entry)) (now (run .entry)) (lentOf (orbitWords mu x y z vx vy vz tau) (now (run .entry))) ⌝ }
 {
     if answer.len() != 15 {
         return 60;
     }
-    let a = states::partials::propagate_with_partials([mu, x, y, z, vx, vy, vz, tau], run);
-    let words = states::answer::words_of(a);
-    answers::put(&words, answer);
+    let a = states::propagate_with_partials([mu, x, y, z, vx, vy, vz, tau], run);
+    let words = states::words_of(a);
+    bits::copy_words(&words, answer);
     a.refusal
 }
 
 // Where the sections of an element file stand, to an answer run of eight words.
 #[no_mangle]
 pub extern "C" fn kelubashi1_read(file: &[u8], answer: &mut [u64]) -> u64
-    ensures { λ r. ⌜ (r ≡ returned 8 (now (answer .entry)) (firstOf (readingWords (readingOf (now (file .entry)))))) × (now (answer .exit) ≡ written 8 (now (answer .entry)) (readingWords (readingOf (now (file .entry))))) ⌝ }
+    ensures number { λ r. ⌜ r ≡ returned 8 (now (answer .entry)) (numberIn (readWords (now (file .entry)))) ⌝ }
+    ensures answer { λ _. ⌜ now (answer .exit) ≡ answerAfter 8 (now (answer .entry)) (readWords (now (file .entry))) ⌝ }
 {
     if answer.len() != 8 {
         return 60;
     }
     let words = answers::reading_words(files_reader::read_file(file));
-    answers::put(&words, answer);
+    bits::copy_words(&words, answer);
     words[0]
 }
 
@@ -97,25 +100,29 @@ pub extern "C" fn kelubashi1_write(
     room: &mut [u8],
     answer: &mut [u64],
 ) -> u64
-    ensures { λ r. ⌜ (r ≡ returned 2 (now (answer .entry)) (firstOf (writingWords (writingOf (now (centres .entry)) (now (states .entry)) (now (requests .entry)) (now (room .entry)))))) × (now (answer .exit) ≡ written 2 (now (answer .entry)) (writingWords (writingOf (now (centres .entry)) (now (states .entry)) (now (requests .entry)) (now (room .entry))))) × (now (room .exit) ≡ lentBehind 2 (now (answer .entry)) (now (room .entry)) (roomOf (now (centres .entry)) (now (states .entry)) (now (requests .entry)) (now (room .entry)))) ⌝ }
+    ensures number { λ r. ⌜ r ≡ writeNumber (now (answer .entry)) (now (centres .entry)) (now (states .entry)) (now (requests .entry)) (now (room .entry)) ⌝ }
+    ensures answer { λ _. ⌜ now (answer .exit) ≡ writeAnswer (now (answer .entry)) (now (centres .entry)) (now (states .entry)) (now (requests .entry)) (now (room .entry)) ⌝ }
+    ensures lent { λ _. ⌜ now (room .exit) ≡ writeRoom (now (answer .entry)) (now (centres .entry)) (now (states .entry)) (now (requests .entry)) (now (room .entry)) ⌝ }
 {
     if answer.len() != 2 {
         return 60;
     }
     let words = answers::writing_words(files::write_file(centres, states, requests, room));
-    answers::put(&words, answer);
+    bits::copy_words(&words, answer);
     words[0]
 }
 
 // The result file of an element file, to a room, and an answer run of two words.
 #[no_mangle]
 pub extern "C" fn kelubashi1_results(file: &[u8], room: &mut [u8], answer: &mut [u64]) -> u64
-    ensures { λ r. ⌜ (r ≡ returned 2 (now (answer .entry)) (outcomeOf (now (file .entry)) (now (room .entry)) .number)) × (now (answer .exit) ≡ written 2 (now (answer .entry)) (outcomeWords (outcomeOf (now (file .entry)) (now (room .entry))))) × (now (room .exit) ≡ lentBehind 2 (now (answer .entry)) (now (room .entry)) (put (now (room .entry)) 0 (resultFile (now (file .entry))))) ⌝ }
+    ensures number { λ r. ⌜ r ≡ returned 2 (now (answer .entry)) (outcomeOf (now (file .entry)) (now (room .entry)) .number) ⌝ }
+    ensures answer { λ _. ⌜ now (answer .exit) ≡ answerAfter 2 (now (answer .entry)) (resultsWords (now (file .entry)) (now (room .entry))) ⌝ }
+    ensures lent { λ _. ⌜ now (room .exit) ≡ lentBehind 2 (now (answer .entry)) (now (room .entry)) (put (now (room .entry)) 0 (resultFile (now (file .entry)))) ⌝ }
 {
     if answer.len() != 2 {
         return 60;
     }
     let outcome = files_results::write_results(file, room);
-    answers::put(&[outcome.number, outcome.length as u64], answer);
+    bits::copy_words(&[outcome.number, outcome.length as u64], answer);
     outcome.number
 }

@@ -1,4 +1,4 @@
--- The laws of this layer: read Laws.antt and OneAnswers.antt. The others serve their proofs.
+-- The laws of this layer: read SeriesLaws.antt and OneAnswers.antt. The others serve their proofs.
 mod Reduction
-pub mod Laws
+pub mod SeriesLaws
 pub mod OneAnswers

@@ -1,3 +1,3 @@
 -- What both calls promise, kept; and what each public function leaves open.
-pub mod Demand
+pub mod CallPromise
 pub mod OneAnswers

@@ -1,5 +1,6 @@
 -- Document 01, "Refusals in order of checking", for the call without partials and what the two calls share: "A refusal carries the trial points used so far (0
 -- for 1 to 4 and 9), all other figures +0; lent memory keeps its bytes. The first that applies is given, and none otherwise."
+use mathlib.Core.Bool.{not}
 use mathlib.Core.List.{List, _∷_}
 use Prim.Native.Nat.{ℕ}
 use Rattle.bits.specs.Choice.{pick}
@@ -7,18 +8,17 @@ use Rattle.bits.specs.Arithmetic.{n0, isFinite}
 use Rattle.bits.specs.Words.{wordsOf}
 use Rattle.series.specs.declared.figures.Seconds.{Seconds}
 use Rattle.search.specs.Search.{searchOf}
-use Rattle.search_points.specs.declared.figures.Initial.{Initial}
 use Rattle.search.specs.declared.figures.Finding.{Finding}
 use Rattle.search.specs.declared.figures.Finding.the-variants as finding
 use Rattle.states_arcs.specs.Results.{arcOf, figuresOf, endedOf}
-use Rattle.states_arcs.specs.declared.figures.Vector.{Vector}
-use Rattle.states_arcs.specs.declared.figures.State.{State}
 use Rattle.states_arcs.specs.declared.figures.Results.{Results}
 use Rattle.states_arcs.specs.declared.figures.Ended.{Ended}
 use Rattle.states_arcs.specs.declared.figures.Ended.the-variants as ended
-use Rattle.states_start.specs.Words.{readOf}
+use Rattle.states_start.specs.Given.{readOf}
 use Rattle.states_start.specs.Initial.{begunOf, firstStepOf}
+use Rattle.states_start.specs.declared.figures.Vector.{Vector}
 use Rattle.states_start.specs.declared.figures.Orbit.{Orbit}
+use Rattle.states_start.specs.declared.figures.Start.{Start}
 use Rattle.states_start.specs.declared.figures.Read.{Read}
 use Rattle.states_start.specs.declared.figures.Read.the-variants as read
 use Rattle.states_start.specs.declared.figures.Begun.{Begun}
@@ -47,41 +47,41 @@ unfoldable pub answered : (points : ℕ) → Results → Answer
 answered points results = record { refusal = 0; points = points; results = results }
 
 -- Refusal 5: "all 41 outward points are short"; 6: "a point that the search tries is unreadable"; both with the points used so far. Else the arc of the found ψ.
-unfoldable pub reachedBy : Initial → State → Seconds → Finding → Reached
-reachedBy i s tau (finding.Found psi n) = reached.End (arcOf i tau psi s) n
-reachedBy i s tau (finding.AllShort n) = reached.Refused 5 n
-reachedBy i s tau (finding.Unreadable n) = reached.Refused 6 n
+unfoldable pub reachedBy : Start → Seconds → Finding → Reached
+reachedBy s tau (finding.AllShort n) = reached.Refused 5 n
+reachedBy s tau (finding.Unreadable n) = reached.Refused 6 n
+reachedBy s tau (finding.Found psi n) = reached.End (arcOf s tau psi) n
 
 -- Refusal 4 by H; then the search.
-unfoldable pub reachedFrom : Initial → State → Seconds → Reached
-reachedFrom i s tau =
-    let h = firstStepOf i tau in
-    pick (isFinite (h .0)) (reachedBy i s tau (searchOf i tau h)) (reached.Refused 4 0)
+unfoldable pub reachedFrom : Start → Seconds → Reached
+reachedFrom s tau =
+    let h = firstStepOf (s .initial) tau in
+    pick (not (isFinite (h .0))) (reached.Refused 4 0) (reachedBy s tau (searchOf (s .initial) tau h))
 
--- Refusals 3 and 4 by the state and μ.
-abbrev pub reachedBegun : Orbit → Begun → Reached
-reachedBegun o (begun.Initial i) = reachedFrom i (o .state) (o .tau)
-reachedBegun o (begun.Refused n) = reached.Refused n 0
+-- Refusals 3 and 4 by the orbit.
+abbrev pub reachedBegun : Begun → Seconds → Reached
+reachedBegun (begun.Refused n) tau = reached.Refused n 0
+reachedBegun (begun.Start s) tau = reachedFrom s tau
 
-unfoldable pub reachedOrbit : Orbit → Reached
-reachedOrbit o = reachedBegun o (begunOf (o .mu) (o .state))
+unfoldable pub reachedOrbit : Orbit → Seconds → Reached
+reachedOrbit o tau = reachedBegun (begunOf o) tau
 
 -- Refusal 2: "any of the eight is NaN or infinite".
 abbrev pub reachedRead : Read → Reached
-reachedRead (read.Orbit o) = reachedOrbit o
 reachedRead (read.NotFinite k) = reached.Refused 2 0
+reachedRead (read.Orbit o tau) = reachedOrbit o tau
 
 unfoldable pub reachedOf : List ℕ → Reached
 reachedOf words = reachedRead (readOf words)
 
 -- Refusals 7 and 8, with the points used.
 unfoldable pub endedAnswer : (points : ℕ) → Ended → Answer
-endedAnswer n (ended.Results r) = answered n r
 endedAnswer n (ended.Refused k) = refused k n
+endedAnswer n (ended.Results r) = answered n r
 
 abbrev pub answerBy : Reached → Answer
-answerBy (reached.End arc n) = endedAnswer n (endedOf arc)
 answerBy (reached.Refused k n) = refused k n
+answerBy (reached.End arc n) = endedAnswer n (endedOf arc)
 
 unfoldable pub propagateOf : List ℕ → Answer
 propagateOf words = answerBy (reachedOf words)

@@ -1,4 +1,5 @@
 -- Document 01, "Refusals in order of checking", for the call with partials: refusal 1 before all others, and 8 by the partials' own divisors and figures.
+use mathlib.Core.Bool.{not}
 use mathlib.Core.List.{List}
 use Prim.Native.Nat.{ℕ}
 use lib.Dec.{eqb}
@@ -9,7 +10,7 @@ use Rattle.states_arcs.specs.declared.figures.Arc.{Arc}
 use Rattle.states_arcs.specs.declared.figures.Results.{Results}
 use Rattle.states_arcs.specs.declared.figures.Ended.{Ended}
 use Rattle.states_arcs.specs.declared.figures.Ended.the-variants as ended
-use Rattle.states_partials.specs.Partials.{refusalOf, lentAfter}
+use Rattle.states_partials.specs.Partials.{partialsRefusal, lentAfter}
 use Rattle.states.specs.declared.figures.Reached.{Reached}
 use Rattle.states.specs.declared.figures.Reached.the-variants as reached
 use Rattle.states.specs.declared.figures.Answer.{Answer}
@@ -17,27 +18,27 @@ use Rattle.states.specs.Call.{refused, answered, reachedOf}
 
 -- The answer, and what the lent run holds afterwards. Where nothing else is refused, refusal 8 by the partials' own divisors and figures.
 unfoldable pub withPartials : Arc → (points : ℕ) → Results → List ℕ → Answer
-withPartials arc n r run = pick (eqb (refusalOf arc run) 0) (answered n r) (refused (refusalOf arc run) n)
+withPartials arc n r run = pick (not (eqb (partialsRefusal arc run) 0)) (refused (partialsRefusal arc run) n) (answered n r)
 
 abbrev pub endedWith : Arc → (points : ℕ) → Ended → List ℕ → Answer
-endedWith arc n (ended.Results r) run = withPartials arc n r run
 endedWith arc n (ended.Refused k) run = refused k n
+endedWith arc n (ended.Results r) run = withPartials arc n r run
 
 abbrev pub lentEnded : Arc → Ended → List ℕ → List ℕ
-lentEnded arc (ended.Results r) run = lentAfter arc run
 lentEnded arc (ended.Refused k) run = run
+lentEnded arc (ended.Results r) run = lentAfter arc run
 
 abbrev pub partialsBy : Reached → List ℕ → Answer
-partialsBy (reached.End arc n) run = endedWith arc n (endedOf arc) run
 partialsBy (reached.Refused k n) run = refused k n
+partialsBy (reached.End arc n) run = endedWith arc n (endedOf arc) run
 
 abbrev pub lentBy : Reached → List ℕ → List ℕ
-lentBy (reached.End arc n) run = lentEnded arc (endedOf arc) run
 lentBy (reached.Refused k n) run = run
+lentBy (reached.End arc n) run = lentEnded arc (endedOf arc) run
 
 -- Refusal 1, before all others: "partials are asked for and the lent run isn't exactly 36 long".
 unfoldable pub partialsOf : List ℕ → List ℕ → Answer
-partialsOf words run = pick (eqb (length run) 36) (partialsBy (reachedOf words) run) (refused 1 0)
+partialsOf words run = pick (not (eqb (length run) 36)) (refused 1 0) (partialsBy (reachedOf words) run)
 
 unfoldable pub lentOf : List ℕ → List ℕ → List ℕ
-lentOf words run = pick (eqb (length run) 36) (lentBy (reachedOf words) run) run
+lentOf words run = pick (not (eqb (length run) 36)) run (lentBy (reachedOf words) run)

@@ -3,18 +3,16 @@ ghost use mathlib.Core.Path.{_≡_};
 ghost use Rattle.states.specs.Call.{refused, answered, reachedBy, reachedFrom, reachedOrbit, reachedOf, endedAnswer, propagateOf};
 use super::figures::Answer;
 use super::figures::Reached;
-use search_points::figures::Initial;
 use series::Anomaly;
 use series::Seconds;
-use states_arcs::figures::Ended;
-use states_arcs::figures::Results;
-use states_arcs::figures::State;
-use states_arcs::figures::Vector;
-use states_arcs::results::arc_at;
-use states_arcs::results::ended;
+use states_arcs::Ended;
+use states_arcs::Results;
 use states_start::Begun;
 use states_start::Orbit;
 use states_start::Read;
+use states_start::Start;
+use states_start::State;
+use states_start::Vector;
 
 // A refusal: its number, the points used so far, and +0 for every other figure.
 pub fn refused_with(refusal: u64, points: u64) -> Answer
@@ -53,40 +51,37 @@ pub fn answered_with(points: u64, results: Results) -> Answer
     }
 }
 
-// What a search of the interval reaches from a state: refusals 5 and 6, or the arc of the found anomaly.
-fn reached_by(initial: Initial, state: State, tau: Seconds, found: search::Finding) -> Reached
-    ensures { λ r. ⌜ r ≡ reachedBy initial state tau found ⌝ }
+// What a search of the interval reaches from a start: refusals 5 and 6, or the arc of the found anomaly.
+fn reached_by(start: Start, tau: Seconds, found: search::Finding) -> Reached
+    ensures { λ r. ⌜ r ≡ reachedBy start tau found ⌝ }
 {
     match found {
         search::Finding::Found { psi, points } => {
-            Reached::End(arc_at(initial, tau, psi, state), points)
+            Reached::End(states_arcs::arc_at(start, tau, psi), points)
         }
         search::Finding::AllShort { points } => Reached::Refused(5, points),
         search::Finding::Unreadable { points } => Reached::Refused(6, points),
     }
 }
 
-// From the initial figures of a state: refusal 4 by H, then the search. One batch of requests of one state can share the initial figures.
-fn reach_from(initial: Initial, state: State, tau: Seconds) -> Reached
-    ensures { λ r. ⌜ r ≡ reachedFrom initial state tau ⌝ }
+// From a start over an interval: refusal 4 by H, then the search. One batch of requests of one orbit can share its start.
+fn reach_from(start: Start, tau: Seconds) -> Reached
+    ensures { λ r. ⌜ r ≡ reachedFrom start tau ⌝ }
 {
+    let initial = start.initial;
     let h = states_start::first_step(initial, tau);
-    if bits::words::is_finite(h.0) {
-        return reached_by(initial, state, tau, search::search(initial, tau, h));
+    if !bits::words::is_finite(h.0) {
+        return Reached::Refused(4, 0);
     }
-    Reached::Refused(4, 0)
+    reached_by(start, tau, search::search(initial, tau, h))
 }
 
-// From an orbit: refusals 3 and 4 by its state, then the interval.
-fn reach_orbit(orbit: Orbit) -> Reached
-    ensures { λ r. ⌜ r ≡ reachedOrbit orbit ⌝ }
+// From an orbit over an interval: refusals 3 and 4 by the orbit, then the interval.
+fn reach_orbit(orbit: Orbit, tau: Seconds) -> Reached
+    ensures { λ r. ⌜ r ≡ reachedOrbit orbit tau ⌝ }
 {
-    let state = orbit.state;
-    match states_start::initial_of(orbit.mu, state) {
-        Begun::Initial(figures) => {
-            let tau = orbit.tau;
-            reach_from(figures, state, tau)
-        }
+    match states_start::start_of(orbit) {
+        Begun::Start(start) => reach_from(start, tau),
         Begun::Refused(refusal) => Reached::Refused(refusal, 0),
     }
 }
@@ -96,7 +91,7 @@ pub fn reach(words: [u64; 8]) -> Reached
     ensures { λ r. ⌜ r ≡ reachedOf words ⌝ }
 {
     match states_start::orbit_of(words) {
-        Read::Orbit(orbit) => reach_orbit(orbit),
+        Read::Orbit(orbit, tau) => reach_orbit(orbit, tau),
         Read::NotFinite(_) => Reached::Refused(2, 0),
     }
 }
@@ -116,7 +111,7 @@ pub fn propagate(words: [u64; 8]) -> Answer
     ensures { λ r. ⌜ r ≡ propagateOf words ⌝ }
 {
     match reach(words) {
-        Reached::End(arc, points) => answer_of(points, ended(arc)),
+        Reached::End(arc, points) => answer_of(points, states_arcs::ended(arc)),
         Reached::Refused(refusal, points) => refused_with(refusal, points),
     }
 }

@@ -1,6 +1,6 @@
 // Where a search leads, and what goes out.
-use states_arcs::figures::Arc;
-use states_arcs::figures::Results;
+use states_arcs::Arc;
+use states_arcs::Results;
 
 // Where a search leads: the arc of the found anomaly, with the points used; or a refusal's number with the points used so far.
 pub enum Reached {

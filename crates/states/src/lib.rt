@@ -1,5 +1,11 @@
-// Layer 4: the propagator's call without partials, from eight words to an answer (document 01, "Refusals in order of checking").
+// Layer 4: the propagator's two calls, from eight words to an answer, without partials and with them (document 01, "Refusals in order of checking").
 pub mod answer;
 pub mod call;
 pub mod figures;
 pub mod partials;
+
+pub use answer::words_of;
+pub use call::propagate;
+pub use figures::Answer;
+pub use figures::Reached;
+pub use partials::propagate_with_partials;

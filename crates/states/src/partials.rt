@@ -8,14 +8,14 @@ use super::call::reach;
 use super::call::refused_with;
 use super::figures::Answer;
 use super::figures::Reached;
-use states_arcs::figures::Arc;
-use states_arcs::figures::Ended;
-use states_arcs::figures::Results;
-use states_arcs::results::ended;
+use states_arcs::Arc;
+use states_arcs::Ended;
+use states_arcs::Results;
 
 // The partials of an arc whose results are not refused, to the lent run: all of them, or refusal 8 and none.
 fn with_partials(arc: Arc, points: u64, results: Results, run: &mut [u64]) -> Answer
-    ensures { λ r. ⌜ (r ≡ withPartials arc points results (now (run .entry))) × (now (run .exit) ≡ lentAfter arc (now (run .entry))) ⌝ }
+    ensures answer { λ r. ⌜ r ≡ withPartials arc points results (now (run .entry)) ⌝ }
+    ensures lent { λ _. ⌜ now (run .exit) ≡ lentAfter arc (now (run .entry)) ⌝ }
 {
     let refusal = states_partials::write_partials(arc, run);
     if refusal != 0 {
@@ -26,9 +26,10 @@ fn with_partials(arc: Arc, points: u64, results: Results, run: &mut [u64]) -> An
 
 // An arc's results with its partials: refusals 7 and 8, or both.
 fn end_with_partials(arc: Arc, points: u64, run: &mut [u64]) -> Answer
-    ensures { λ r. ⌜ (r ≡ endedWith arc points (endedOf arc) (now (run .entry))) × (now (run .exit) ≡ lentEnded arc (endedOf arc) (now (run .entry))) ⌝ }
+    ensures answer { λ r. ⌜ r ≡ endedWith arc points (endedOf arc) (now (run .entry)) ⌝ }
+    ensures lent { λ _. ⌜ now (run .exit) ≡ lentEnded arc (endedOf arc) (now (run .entry)) ⌝ }
 {
-    match ended(arc) {
+    match states_arcs::ended(arc) {
         Ended::Results(results) => with_partials(arc, points, results, run),
         Ended::Refused(refusal) => refused_with(refusal, points),
     }
@@ -36,7 +37,8 @@ fn end_with_partials(arc: Arc, points: u64, run: &mut [u64]) -> Answer
 
 // The same of eight words, with the 36 partials to the lent run: refusal 1, then as without them, and 8 by the partials too.
 pub fn propagate_with_partials(words: [u64; 8], run: &mut [u64]) -> Answer
-    ensures { λ r. ⌜ (r ≡ partialsOf words (now (run .entry))) × (now (run .exit) ≡ lentOf words (now (run .entry))) ⌝ }
+    ensures answer { λ r. ⌜ r ≡ partialsOf words (now (run .entry)) ⌝ }
+    ensures lent { λ _. ⌜ now (run .exit) ≡ lentOf words (now (run .entry)) ⌝ }
 {
     if run.len() != 36 {
         return refused_with(1, 0);

@@ -1,4 +1,3 @@
--- The laws of this crate: read Laws.antt and OneAnswers.antt. FiniteLaws.antt serves proofs, of the crates above too.
-pub mod FiniteLaws
-pub mod Laws
+-- The laws of this crate: what `ended` leaves open, and what each public function does.
+pub mod EndLaws
 pub mod OneAnswers

@@ -1,22 +1,11 @@
 // The quantities of an arc. Lengths are in km, times in s.
-use search_points::figures::Initial;
 use series::Anomaly;
 use series::Coefficients;
 use series::Seconds;
 use series::Sums;
-
-// A position (km), a velocity (km/s) or an acceleration (km/s^2).
-pub struct Vector {
-    pub x: f64,
-    pub y: f64,
-    pub z: f64,
-}
-
-// Where a body is and how it moves.
-pub struct State {
-    pub position: Vector,
-    pub velocity: Vector,
-}
+use states_start::Start;
+use states_start::State;
+use states_start::Vector;
 
 // f (a number), g (s), f' (1/s) and g' (a number): they take a start to its end.
 pub struct Factors {
@@ -26,17 +15,16 @@ pub struct Factors {
     pub gprime: f64,
 }
 
-// The way from a start to its end: the initial figures, the interval, the found anomaly with its series and its radius r (km), the factors, and the two
-// states. The results and the partials are made of it.
+// The way from a start to its end: the start, the interval, the found anomaly with its series and its radius r (km), the factors, and the state at the end.
+// The results and the partials are made of it.
 pub struct Arc {
-    pub initial: Initial,
+    pub start: Start,
     pub tau: Seconds,
     pub psi: Anomaly,
     pub c: Coefficients,
     pub s: Sums,
     pub r: f64,
     pub factors: Factors,
-    pub start: State,
     pub end: State,
 }
 

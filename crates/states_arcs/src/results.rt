@@ -1,19 +1,21 @@
 // The arc of a found anomaly, and its results.
 ghost use mathlib.Core.Path.{_≡_};
-ghost use Rattle.states_arcs.specs.Results.{factorsOf, endOf, arcOf, accelerationOf, resultsOf, divisorsOf, figuresOf, endedOf};
+ghost use Rattle.bits.specs.Words.{wordsOf};
+ghost use Rattle.states_arcs.specs.Results.{factorsOf, endStateOf, arcOf, accelerationOf, resultsOf, endDivisors, figuresOf, endedOf};
 use super::figures::Arc;
 use super::figures::Ended;
 use super::figures::Factors;
 use super::figures::Results;
-use super::figures::State;
-use super::figures::Vector;
-use super::finite::all_finite;
-use super::finite::any_zero;
+use bits::Sought;
+use bits::words::word_of;
 use search_points::figures::Initial;
 use search_points::residual::radius;
 use series::Anomaly;
 use series::Seconds;
 use series::Sums;
+use states_start::Start;
+use states_start::State;
+use states_start::Vector;
 
 // f, g, f' and g' at the anomaly whose sums are s and whose radius is r.
 fn factors_at(initial: Initial, tau: Seconds, s: Sums, r: f64) -> Factors
@@ -28,8 +30,8 @@ fn factors_at(initial: Initial, tau: Seconds, s: Sums, r: f64) -> Factors
 }
 
 // The state to which the factors take a start.
-fn end_of(k: Factors, start: State) -> State
-    ensures { λ e. ⌜ e ≡ endOf k start ⌝ }
+fn end_state(k: Factors, start: State) -> State
+    ensures { λ e. ⌜ e ≡ endStateOf k start ⌝ }
 {
     let position = Vector {
         x: k.f * start.position.x + k.g * start.velocity.x,
@@ -45,9 +47,10 @@ fn end_of(k: Factors, start: State) -> State
 }
 
 // The arc from a start over tau, at the found anomaly psi. Its figures may be anything: `ended` tests them.
-pub fn arc_at(initial: Initial, tau: Seconds, psi: Anomaly, start: State) -> Arc
-    ensures { λ a. ⌜ a ≡ arcOf initial tau psi start ⌝ }
+pub fn arc_at(start: Start, tau: Seconds, psi: Anomaly) -> Arc
+    ensures { λ a. ⌜ a ≡ arcOf start tau psi ⌝ }
 {
+    let initial = start.initial;
     let c = series::coefficients(initial.alpha, psi);
     let s = series::sums(psi, c);
     let terms = search_points::Terms {
@@ -57,16 +60,15 @@ pub fn arc_at(initial: Initial, tau: Seconds, psi: Anomaly, start: State) -> Arc
     };
     let r = radius(initial, terms);
     let factors = factors_at(initial, tau, s, r);
-    let end = end_of(factors, start);
+    let end = end_state(factors, start.state);
     Arc {
-        initial,
+        start,
         tau,
         psi,
         c,
         s,
         r,
         factors,
-        start,
         end,
     }
 }
@@ -88,11 +90,10 @@ fn acceleration_at(mu: f64, r: f64, position: Vector) -> Vector
 fn results_of(arc: Arc) -> Results
     ensures { λ r. ⌜ r ≡ resultsOf arc ⌝ }
 {
-    let from = arc.start.position;
-    let to = arc.end.position;
-    let start_acceleration = acceleration_at(arc.initial.mu, arc.initial.r0, from);
-    let end_acceleration = acceleration_at(arc.initial.mu, arc.r, to);
+    let initial = arc.start.initial;
     let end = arc.end;
+    let end_acceleration = acceleration_at(initial.mu, arc.r, end.position);
+    let start_acceleration = acceleration_at(initial.mu, initial.r0, arc.start.state.position);
     let psi = arc.psi;
     Results {
         end,
@@ -102,31 +103,37 @@ fn results_of(arc: Arc) -> Results
     }
 }
 
-// The divisors of f, f', g' and of the two accelerations.
-fn divisors_of(r0: f64, r: f64) -> [f64; 5]
-    ensures { λ d. ⌜ d ≡ divisorsOf r0 r ⌝ }
-{
-    [r0, r * r0, r, (r * r) * r, (r0 * r0) * r0]
-}
-
-// The thirteen figures in a row.
-fn figures_of(results: Results) -> [f64; 13]
-    ensures { λ d. ⌜ d ≡ figuresOf results ⌝ }
+// The words of the divisors of f, f', g' and of the two accelerations.
+fn end_divisors(r0: f64, r: f64) -> [u64; 5]
+    ensures { λ d. ⌜ d ≡ wordsOf (endDivisors r0 r) ⌝ }
 {
     [
-        results.end.position.x,
-        results.end.position.y,
-        results.end.position.z,
-        results.end.velocity.x,
-        results.end.velocity.y,
-        results.end.velocity.z,
-        results.end_acceleration.x,
-        results.end_acceleration.y,
-        results.end_acceleration.z,
-        results.start_acceleration.x,
-        results.start_acceleration.y,
-        results.start_acceleration.z,
-        results.psi.0,
+        word_of(r0),
+        word_of(r * r0),
+        word_of(r),
+        word_of((r * r) * r),
+        word_of((r0 * r0) * r0),
+    ]
+}
+
+// The words of the thirteen figures, in a row.
+pub fn figures_of(results: Results) -> [u64; 13]
+    ensures { λ d. ⌜ d ≡ wordsOf (figuresOf results) ⌝ }
+{
+    [
+        word_of(results.end.position.x),
+        word_of(results.end.position.y),
+        word_of(results.end.position.z),
+        word_of(results.end.velocity.x),
+        word_of(results.end.velocity.y),
+        word_of(results.end.velocity.z),
+        word_of(results.end_acceleration.x),
+        word_of(results.end_acceleration.y),
+        word_of(results.end_acceleration.z),
+        word_of(results.start_acceleration.x),
+        word_of(results.start_acceleration.y),
+        word_of(results.start_acceleration.z),
+        word_of(results.psi.0),
     ]
 }
 
@@ -134,17 +141,17 @@ fn figures_of(results: Results) -> [f64; 13]
 pub fn ended(arc: Arc) -> Ended
     ensures { λ e. ⌜ e ≡ endedOf arc ⌝ }
 {
-    if arc.r > 0.0 {
-        let divisors = divisors_of(arc.initial.r0, arc.r);
-        if any_zero(&divisors) {
-            return Ended::Refused(8);
-        }
-        let results = results_of(arc);
-        let figures = figures_of(results);
-        if all_finite(&figures) {
-            return Ended::Results(results);
-        }
+    if !(arc.r > 0.0) {
+        return Ended::Refused(7);
+    }
+    let divisors = end_divisors(arc.start.initial.r0, arc.r);
+    if bits::has(&divisors, Sought::Zero) {
         return Ended::Refused(8);
     }
-    Ended::Refused(7)
+    let results = results_of(arc);
+    let figures = figures_of(results);
+    if bits::has(&figures, Sought::NotFinite) {
+        return Ended::Refused(8);
+    }
+    Ended::Results(results)
 }

@@ -1,3 +1,3 @@
 -- The laws of this crate.
-pub mod Laws
+pub mod EntryLaws
 pub mod OneAnswers

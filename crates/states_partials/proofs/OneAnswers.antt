@@ -5,8 +5,8 @@ use Rattle.states_partials.proofs.matrix.u_of.Kinds as u-of-kinds
 use Rattle.states_partials.proofs.matrix.u_of.Reads as u-of-reads
 use Rattle.states_partials.proofs.matrix.matrix_of.Kinds as matrix-of-kinds
 use Rattle.states_partials.proofs.matrix.matrix_of.Reads as matrix-of-reads
-use Rattle.states_partials.proofs.matrix.divisors_of.Kinds as divisors-of-kinds
-use Rattle.states_partials.proofs.matrix.divisors_of.Reads as divisors-of-reads
+use Rattle.states_partials.proofs.matrix.matrix_divisors.Kinds as matrix-divisors-kinds
+use Rattle.states_partials.proofs.matrix.matrix_divisors.Reads as matrix-divisors-reads
 use Rattle.states_partials.proofs.write_partials.Kinds as write-partials-kinds
 use Rattle.states_partials.proofs.write_partials.Reads as write-partials-reads
 
@@ -16,8 +16,8 @@ u-of κs a x y v w p q = (p ∙ sym q, refl)
 pub matrix-of : OneAnswer 0 matrix-of-kinds.ps matrix-of-kinds.r matrix-of-reads.Post
 matrix-of κs a x y v w p q = (p ∙ sym q, refl)
 
-pub divisors-of : OneAnswer 0 divisors-of-kinds.ps divisors-of-kinds.r divisors-of-reads.Post
-divisors-of κs a x y v w p q = (p ∙ sym q, refl)
+pub matrix-divisors : OneAnswer 0 matrix-divisors-kinds.ps matrix-divisors-kinds.r matrix-divisors-reads.Post
+matrix-divisors κs a x y v w p q = (p ∙ sym q, refl)
 
 pub write-partials : OneAnswer 1 write-partials-kinds.ps write-partials-kinds.r write-partials-reads.Post
 write-partials κs a x y v w p q = (p .0 ∙ sym (q .0), λ i. (tt, ((p .1 ∙ sym (q .1)) i, tt)))

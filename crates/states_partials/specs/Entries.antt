@@ -6,7 +6,8 @@ use lib.Dec.{eqb, ltb}
 use lib.Ieee.{Float}
 use Rattle.bits.specs.Choice.{pick}
 use Rattle.bits.specs.Arithmetic.{_⊕_, _⊖_, _⊗_, n0, n1}
-use Rattle.states_arcs.specs.declared.figures.Vector.{Vector}
+use Rattle.states_start.specs.declared.figures.Vector.{Vector}
+use Rattle.states_arcs.specs.declared.figures.Factors.{Factors}
 use Rattle.states_arcs.specs.declared.figures.Arc.{Arc}
 use Rattle.states_partials.specs.Matrix.{uOf, matrixOf}
 use Rattle.states_partials.specs.declared.matrix.Matrix.{Matrix}
@@ -32,29 +33,29 @@ componentOf v i = pick (eqb i 0) (v .x) (pick (eqb i 1) (v .y) (v .z))
 
 -- "p by u is g·I plus the same with A22 A23 A32 A33 in those places; w by q is f'·I minus it with A11 A12 A21 A22; w by u is g'·I minus it with A12 A13 A22
 -- A23." The first two arguments say whether it is the partial of p, or of w, and whether by q, or by u.
-abbrev pub partial : (ofPosition byPosition : Bool) → Arc → Matrix → (unit p w q u : Float) → Float
-partial true true arc a unit p w q u = plusOf (arc .factors .f) unit (a .a21) (a .a22) (a .a31) (a .a32) p w q u
-partial true false arc a unit p w q u = plusOf (arc .factors .g) unit (a .a22) (a .a23) (a .a32) (a .a33) p w q u
-partial false true arc a unit p w q u = minusOf (arc .factors .fprime) unit (a .a11) (a .a12) (a .a21) (a .a22) p w q u
-partial false false arc a unit p w q u = minusOf (arc .factors .gprime) unit (a .a12) (a .a13) (a .a22) (a .a23) p w q u
+unfoldable pub partialOf : (ofPosition byPosition : Bool) → Factors → Matrix → (unit p w q u : Float) → Float
+partialOf true true k a unit p w q u = plusOf (k .f) unit (a .a21) (a .a22) (a .a31) (a .a32) p w q u
+partialOf true false k a unit p w q u = plusOf (k .g) unit (a .a22) (a .a23) (a .a32) (a .a33) p w q u
+partialOf false true k a unit p w q u = minusOf (k .fprime) unit (a .a11) (a .a12) (a .a21) (a .a22) p w q u
+partialOf false false k a unit p w q u = minusOf (k .gprime) unit (a .a12) (a .a13) (a .a22) (a .a23) p w q u
 
 -- "Rows: position then velocity; columns likewise": rows 0 to 2 are of position, 3 to 5 of velocity, and so the columns.
 unfoldable pub entryOf : Arc → Matrix → (row column : ℕ) → Float
 entryOf arc a row column =
-    partial (ltb row 3) (ltb column 3) arc a (unitOf (row % 3) (column % 3))
+    partialOf (ltb row 3) (ltb column 3) (arc .factors) a (unitOf (row % 3) (column % 3))
     (componentOf (arc .end .position) (row % 3))
     (componentOf (arc .end .velocity) (row % 3))
-    (componentOf (arc .start .position) (column % 3))
-    (componentOf (arc .start .velocity) (column % 3))
+    (componentOf (arc .start .state .position) (column % 3))
+    (componentOf (arc .start .state .velocity) (column % 3))
 
 -- The first n of a row of numbers.
-unfoldable pub firstOf : (n : ℕ) → (ℕ → Float) → List Float
-firstOf zero f = []
-firstOf (suc n) f = firstOf n f ++ (f n ∷ [])
+unfoldable pub upTo : (n : ℕ) → (ℕ → Float) → List Float
+upTo zero f = []
+upTo (suc n) f = upTo n f ++ (f n ∷ [])
 
 -- "row by row": six to a row.
 abbrev pub rowByRow : Arc → Matrix → List Float
-rowByRow arc a = firstOf 36 (λ k. entryOf arc a (k / 6) (k % 6))
+rowByRow arc a = upTo 36 (λ k. entryOf arc a (k / 6) (k % 6))
 
 unfoldable pub entriesOf : Arc → List Float
 entriesOf arc = rowByRow arc (matrixOf arc (uOf arc))

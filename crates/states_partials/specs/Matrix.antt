@@ -17,7 +17,7 @@ whole-number = (refl, tt)
 unfoldable pub uOf : Arc → Float
 uOf a =
     let psi = a .psi .0 in
-    a .s .s2 ⊗ a .tau .0 ⊕ (a .initial .mu ⊗ (a .c .c4 ⊖ n3 ⊗ a .c .c5)) ⊗ ((((psi ⊗ psi) ⊗ psi) ⊗ psi) ⊗ psi)
+    a .s .s2 ⊗ a .tau .0 ⊕ (a .start .initial .mu ⊗ (a .c .c4 ⊖ n3 ⊗ a .c .c5)) ⊗ ((((psi ⊗ psi) ⊗ psi) ⊗ psi) ⊗ psi)
 
 -- "With r³ = (r·r)·r and r0³ likewise"
 abbrev pub cube : Float → Float
@@ -43,9 +43,9 @@ matrixFrom mu r0 r c0 s1 s2 f g fprime gprime u =
 
 unfoldable pub matrixOf : Arc → (u : Float) → Matrix
 matrixOf a u =
-    matrixFrom (a .initial .mu) (a .initial .r0) (a .r) (a .c .c0) (a .s .s1) (a .s .s2)
+    matrixFrom (a .start .initial .mu) (a .start .initial .r0) (a .r) (a .c .c0) (a .s .s1) (a .s .s2)
     (a .factors .f) (a .factors .g) (a .factors .fprime) (a .factors .gprime) u
 
 -- The divisors of A11; then those that A12, A13, A21 and A31 have besides.
-unfoldable pub divisorsOf : (r0 r : Float) → List Float
-divisorsOf r0 r = (r ⊗ r0) ∷ (r0 ⊗ r0) ∷ (r ⊗ r) ∷ (cube r ⊗ cube r0) ∷ r ∷ cube r ∷ r0 ∷ cube r0 ∷ []
+abbrev pub matrixDivisors : (r0 r : Float) → List Float
+matrixDivisors r0 r = (r ⊗ r0) ∷ (r0 ⊗ r0) ∷ (r ⊗ r) ∷ (cube r ⊗ cube r0) ∷ r ∷ cube r ∷ r0 ∷ cube r0 ∷ []

@@ -1,11 +1,14 @@
 // The 36 partials, row by row.
 ghost use mathlib.Core.Path.{_≡_};
-ghost use Rattle.states_partials.specs.Entries.{plusOf, minusOf, componentOf, unitOf, entryOf, entriesOf};
+ghost use Rattle.bits.specs.Words.{wordsOf};
+ghost use Rattle.states_partials.specs.Entries.{plusOf, minusOf, partialOf, componentOf, unitOf, entryOf, entriesOf};
 use super::matrix::Matrix;
 use super::matrix::matrix_of;
 use super::matrix::u_of;
-use states_arcs::figures::Arc;
-use states_arcs::figures::Vector;
+use bits::words::word_of;
+use states_arcs::Arc;
+use states_arcs::Factors;
+use states_start::Vector;
 
 // A partial of the position: k·I and the four products.
 fn plus(k: f64, unit: f64, a: f64, b: f64, c: f64, d: f64, p: f64, w: f64, q: f64, u: f64) -> f64
@@ -41,13 +44,38 @@ fn unit_of(i: usize, j: usize) -> f64
     if i == j { 1.0 } else { 0.0 }
 }
 
+// The partial of p, or of w, by q, or by u.
+fn partial(
+    of_position: bool,
+    by_position: bool,
+    factors: Factors,
+    a: Matrix,
+    unit: f64,
+    p: f64,
+    w: f64,
+    q: f64,
+    u: f64,
+) -> f64
+    ensures { λ r. ⌜ r ≡ partialOf «of_position» «by_position» factors a unit p w q u ⌝ }
+{
+    if of_position {
+        if by_position {
+            return plus(factors.f, unit, a.a21, a.a22, a.a31, a.a32, p, w, q, u);
+        }
+        return plus(factors.g, unit, a.a22, a.a23, a.a32, a.a33, p, w, q, u);
+    }
+    if by_position {
+        return minus(factors.fprime, unit, a.a11, a.a12, a.a21, a.a22, p, w, q, u);
+    }
+    minus(factors.gprime, unit, a.a12, a.a13, a.a22, a.a23, p, w, q, u)
+}
+
 // The partial in a row and a column, 0 to 5 each.
 fn entry(arc: Arc, a: Matrix, row: usize, column: usize) -> f64
     ensures { λ r. ⌜ r ≡ entryOf arc a row column ⌝ }
 {
-    let factors = arc.factors;
     let to = arc.end;
-    let from = arc.start;
+    let from = arc.start.state;
     let i = row % 3;
     let j = column % 3;
     let p = component(to.position, i);
@@ -55,29 +83,21 @@ fn entry(arc: Arc, a: Matrix, row: usize, column: usize) -> f64
     let q = component(from.position, j);
     let u = component(from.velocity, j);
     let unit = unit_of(i, j);
-    if row < 3 {
-        if column < 3 {
-            return plus(factors.f, unit, a.a21, a.a22, a.a31, a.a32, p, w, q, u);
-        }
-        return plus(factors.g, unit, a.a22, a.a23, a.a32, a.a33, p, w, q, u);
-    }
-    if column < 3 {
-        return minus(factors.fprime, unit, a.a11, a.a12, a.a21, a.a22, p, w, q, u);
-    }
-    minus(factors.gprime, unit, a.a12, a.a13, a.a22, a.a23, p, w, q, u)
+    partial(row < 3, column < 3, arc.factors, a, unit, p, w, q, u)
 }
 
-// The 36 partials, row by row. The columns have their own loop, so that the compiler can write a row's six out: which formula an entry has is then known.
-pub fn entries(arc: Arc) -> [f64; 36]
-    ensures { λ r. ⌜ r ≡ entriesOf arc ⌝ }
+// The words of the 36 partials, row by row. The columns have their own loop, so that the compiler can write a row's six out: which formula an entry has is
+// then known.
+pub fn entries(arc: Arc) -> [u64; 36]
+    ensures { λ r. ⌜ r ≡ wordsOf (entriesOf arc) ⌝ }
 {
     let a = matrix_of(arc, u_of(arc));
-    let mut table = [0.0; 36];
+    let mut table = [0; 36];
     let mut row = 0usize;
     while row < 6 {
         let mut column = 0usize;
         while column < 6 {
-            table[6 * row + column] = entry(arc, a, row, column);
+            table[6 * row + column] = word_of(entry(arc, a, row, column));
             column += 1;
         }
         row += 1;

@@ -1,7 +1,9 @@
 // Layer 4, what the partials of an arc are made of: U, and A11 to A33 (document 01, "Results and partials").
 ghost use mathlib.Core.Path.{_≡_};
-ghost use Rattle.states_partials.specs.Matrix.{uOf, matrixOf, divisorsOf};
-use states_arcs::figures::Arc;
+ghost use Rattle.bits.specs.Words.{wordsOf};
+ghost use Rattle.states_partials.specs.Matrix.{uOf, matrixOf, matrixDivisors};
+use bits::words::word_of;
+use states_arcs::Arc;
 
 // A11 to A33 of document 01: A11 in 1/(km^2 s), A12 and A21 in 1/km^2, A13, A22 and A31 in s/km^2, A23 and A32 in s^2/km^2, A33 in s^3/km^2.
 pub struct Matrix {
@@ -22,15 +24,15 @@ pub fn u_of(arc: Arc) -> f64
 {
     let psi = arc.psi.0;
     arc.s.s2 * arc.tau.0
-        + (arc.initial.mu * (arc.c.c4 - 3.0 * arc.c.c5)) * ((((psi * psi) * psi) * psi) * psi)
+        + (arc.start.initial.mu * (arc.c.c4 - 3.0 * arc.c.c5)) * ((((psi * psi) * psi) * psi) * psi)
 }
 
 // A11 to A33, from U.
 pub fn matrix_of(arc: Arc, u: f64) -> Matrix
     ensures { λ a. ⌜ a ≡ matrixOf arc u ⌝ }
 {
-    let mu = arc.initial.mu;
-    let r0 = arc.initial.r0;
+    let mu = arc.start.initial.mu;
+    let r0 = arc.start.initial.r0;
     let r = arc.r;
     let c0 = arc.c.c0;
     let s1 = arc.s.s1;
@@ -55,20 +57,20 @@ pub fn matrix_of(arc: Arc, u: f64) -> Matrix
     }
 }
 
-// The divisors of A11 to A33.
-pub fn divisors_of(r0: f64, r: f64) -> [f64; 8]
-    ensures { λ d. ⌜ d ≡ divisorsOf r0 r ⌝ }
+// The words of the divisors of A11 to A33.
+pub fn matrix_divisors(r0: f64, r: f64) -> [u64; 8]
+    ensures { λ d. ⌜ d ≡ wordsOf (matrixDivisors r0 r) ⌝ }
 {
     let r_cubed = (r * r) * r;
     let r0_cubed = (r0 * r0) * r0;
     [
-        r * r0,
-        r0 * r0,
-        r * r,
-        r_cubed * r0_cubed,
-        r,
-        r_cubed,
-        r0,
-        r0_cubed,
+        word_of(r * r0),
+        word_of(r0 * r0),
+        word_of(r * r),
+        word_of(r_cubed * r0_cubed),
+        word_of(r),
+        word_of(r_cubed),
+        word_of(r0),
+        word_of(r0_cubed),
     ]
 }

@@ -1,4 +1,3 @@
--- The laws of this crate: the eight words and the initial figures, and what each function leaves open. WordLaws serves proofs.
-mod WordLaws
-pub mod Laws
+-- The laws of this crate: the eight words and the start of an orbit, and what each function leaves open.
+pub mod StartLaws
 pub mod OneAnswers

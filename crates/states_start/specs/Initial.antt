@@ -1,4 +1,4 @@
--- Document 01, "Initial figures and series (document 003, 3.4)", up to H, with refusals 3 and 4. The state and τ may be any doubles.
+-- Document 01, "Initial figures and series (document 003, 3.4)", up to H, with refusals 3 and 4. The orbit and τ may be any doubles.
 use mathlib.Core.Path.{_≡_, refl}
 use mathlib.Core.List.{[], _∷_}
 use Prim.Native.Nat.{_^_}
@@ -6,13 +6,15 @@ use lib.IntN.{pos}
 use lib.Ieee.{Float, binary64, div, eq, ofBits, ofInt}
 use Rattle.bits.specs.Choice.{pick}
 use Rattle.bits.specs.Arithmetic.{_⊕_, _⊖_, _⊗_, _⊘_, n0, n1, n2, magnitude}
+use Rattle.bits.specs.Words.{wordsOf}
+use Rattle.bits.specs.Runs.{has}
 use Rattle.bits.specs.Root.{rootOf}
 use Rattle.series.specs.declared.figures.Anomaly.{Anomaly}
 use Rattle.series.specs.declared.figures.Seconds.{Seconds}
 use Rattle.search_points.specs.declared.figures.Initial.{Initial}
-use Rattle.states_arcs.specs.Finite.{allFinite}
-use Rattle.states_arcs.specs.declared.figures.Vector.{Vector}
-use Rattle.states_arcs.specs.declared.figures.State.{State}
+use Rattle.bits.specs.declared.runs.Sought.the-variants.{NotFinite}
+use Rattle.states_start.specs.declared.figures.Vector.{Vector}
+use Rattle.states_start.specs.declared.figures.Orbit.{Orbit}
 use Rattle.states_start.specs.declared.figures.Begun.{Begun}
 use Rattle.states_start.specs.declared.figures.Begun.the-variants as begun
 
@@ -22,19 +24,21 @@ dot a b = (a .x ⊗ b .x ⊕ a .y ⊗ b .y) ⊕ a .z ⊗ b .z
 
 -- "α = v² − (2·μ)/r0". Refusal 3: "(x·x+y·y)+z·z is zero". Refusal 4: "that sum, σ0, v², (2·μ)/r0, α or H below isn't finite"; H is the interval's,
 -- and refused where the interval is (Call of crate `states`).
-abbrev pub begunFrom : (mu sum r0 sigma0 v2 : Float) → Begun
-begunFrom mu sum r0 sigma0 v2 =
-    let quotient = (n2 ⊗ mu) ⊘ r0 in
+abbrev pub begunFrom : Orbit → (sum r0 sigma0 v2 : Float) → Begun
+begunFrom o sum r0 sigma0 v2 =
+    let quotient = (n2 ⊗ o .mu) ⊘ r0 in
     let alpha = v2 ⊖ quotient in
     pick (eq sum n0) (begun.Refused 3)
-    (pick (allFinite (sum ∷ sigma0 ∷ v2 ∷ quotient ∷ alpha ∷ [])) (begun.Initial (record { mu = mu; r0 = r0; sigma0 = sigma0; alpha = alpha }))
-    (begun.Refused 4))
+    (pick (has NotFinite (wordsOf (sum ∷ sigma0 ∷ v2 ∷ quotient ∷ alpha ∷ []))) (begun.Refused 4)
+    (begun.Start (record { state = o .state; initial = record { mu = o .mu; r0 = r0; sigma0 = sigma0; alpha = alpha } })))
 
 -- "r0 = root of that sum"
-unfoldable pub begunOf : Float → State → Begun
-begunOf mu s =
-    let sum = dot (s .position) (s .position) in
-    begunFrom mu sum (rootOf sum) (dot (s .position) (s .velocity)) (dot (s .velocity) (s .velocity))
+unfoldable pub begunOf : Orbit → Begun
+begunOf o =
+    let position = o .state .position in
+    let velocity = o .state .velocity in
+    let sum = dot position position in
+    begunFrom o sum (rootOf sum) (dot position velocity) (dot velocity velocity)
 
 -- "2^−20"
 abbrev pub twoToMinus20 : Float

@@ -1,4 +1,4 @@
--- Layer 4: from eight words to an orbit and its initial figures. Read the files in this order.
-pub mod Words
+-- Layer 4: from eight words to an orbit and its start. Read the files in this order.
+pub mod Given
 pub mod Initial
 pub mod Cases

@@ -1,23 +1,40 @@
-// What comes in, and what is known of it before the search.
+// What comes in, and what is known of it before the search. Lengths are in km, times in s.
 use search_points::figures::Initial;
 use series::Seconds;
-use states_arcs::figures::State;
 
-// The eight doubles that come in: mu (km^3/s^2), the state at the start, and the interval.
+// A position (km), a velocity (km/s) or an acceleration (km/s^2).
+pub struct Vector {
+    pub x: f64,
+    pub y: f64,
+    pub z: f64,
+}
+
+// Where a body is and how it moves.
+pub struct State {
+    pub position: Vector,
+    pub velocity: Vector,
+}
+
+// Seven of the eight doubles that come in: mu (km^3/s^2) and the state at the start. The interval stands beside it.
 pub struct Orbit {
     pub mu: f64,
     pub state: State,
-    pub tau: Seconds,
 }
 
-// What eight words hold: an orbit; or a word that is not finite, and then the number of the first such word, from 0.
+// What eight words hold: an orbit and an interval; or a word that is not finite, and then the number of the first such word, from 0.
 pub enum Read {
-    Orbit(Orbit),
+    Orbit(Orbit, Seconds),
     NotFinite(u64),
 }
 
-// The initial figures of a state, or the number of the refusal.
+// What every interval of one orbit begins with: its state, and its initial figures, mu among them.
+pub struct Start {
+    pub state: State,
+    pub initial: Initial,
+}
+
+// The start of an orbit, or the number of the refusal.
 pub enum Begun {
-    Initial(Initial),
+    Start(Start),
     Refused(u64),
 }

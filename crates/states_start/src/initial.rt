@@ -1,15 +1,18 @@
-// The initial figures of a state, and the first step of the search.
+// The start of an orbit, and the first step of its search.
 ghost use mathlib.Core.Path.{_≡_};
-ghost use Rattle.bits.specs.Arithmetic.{magnitude};
+ghost use mathlib.Core.List.{[], _∷_};
+ghost use Rattle.bits.specs.Words.{wordsOf};
 ghost use Rattle.states_start.specs.Initial.{dot, begunOf, firstStepOf};
 use super::figures::Begun;
-use bits::words::SIGN;
+use super::figures::Orbit;
+use super::figures::Start;
+use super::figures::Vector;
+use bits::Sought;
+use bits::words::magnitude_of;
+use bits::words::word_of;
 use search_points::figures::Initial;
 use series::Anomaly;
 use series::Seconds;
-use states_arcs::figures::State;
-use states_arcs::figures::Vector;
-use states_arcs::finite::all_finite;
 
 // 2^-20.
 const FIRST_STEP: f64 = 0.00000095367431640625;
@@ -21,10 +24,26 @@ fn product(a: Vector, b: Vector) -> f64
     a.x * b.x + a.y * b.y + a.z * b.z
 }
 
-// r0 (km), sigma0 (km^2/s) and alpha (km^2/s^2) of a state, beside its mu; refusal 3, then 4. H, which is the interval's, stands apart: see `first_step`.
-pub fn initial_of(mu: f64, state: State) -> Begun
-    ensures { λ r. ⌜ r ≡ begunOf mu state ⌝ }
+// The words of the five figures by which refusal 4 is given.
+fn tested(sum: f64, sigma0: f64, v2: f64, quotient: f64, alpha: f64) -> [u64; 5]
+    ensures { λ r. ⌜ r ≡ wordsOf (sum ∷ sigma0 ∷ v2 ∷ quotient ∷ alpha ∷ []) ⌝ }
 {
+    [
+        word_of(sum),
+        word_of(sigma0),
+        word_of(v2),
+        word_of(quotient),
+        word_of(alpha),
+    ]
+}
+
+// r0 (km), sigma0 (km^2/s) and alpha (km^2/s^2) of an orbit, beside its mu and its state; refusal 3, then 4. H, which is the interval's, stands apart: see
+// `first_step`.
+pub fn start_of(orbit: Orbit) -> Begun
+    ensures { λ r. ⌜ r ≡ begunOf orbit ⌝ }
+{
+    let mu = orbit.mu;
+    let state = orbit.state;
     let position = state.position;
     let velocity = state.velocity;
     let sum = product(position, position);
@@ -37,26 +56,17 @@ pub fn initial_of(mu: f64, state: State) -> Begun
     let v2 = product(velocity, velocity);
     let quotient = (2.0 * mu) / r0;
     let alpha = v2 - quotient;
+    let words = tested(sum, sigma0, v2, quotient, alpha);
+    if bits::has(&words, Sought::NotFinite) {
+        return Begun::Refused(4);
+    }
     let initial = Initial {
         mu,
         r0,
         sigma0,
         alpha,
     };
-    if all_finite(&[sum, sigma0, v2, quotient, alpha]) {
-        return Begun::Initial(initial);
-    }
-    Begun::Refused(4)
-}
-
-// |x|: the sign bit cleared.
-fn magnitude_of(x: f64) -> f64
-    ensures { λ r. ⌜ r ≡ magnitude x ⌝ }
-{
-    if x != x {
-        return x;
-    }
-    f64::from_bits(f64::to_bits(x) % SIGN)
+    Begun::Start(Start { state, initial })
 }
 
 // H (s/km), an anomaly, from which the search goes outward.

@@ -1,5 +1,6 @@
 -- A run of another length is left as it was; else the answer's words are written.
 use mathlib.Core.Path.{_∙_, ap}
+use native.Mathlib.Omega.{arith}
 use borrow.Author.Needs.{needs}
 use Rattle.states.specs.declared.figures.Answer.{Answer}
 use Rattle.states.specs.Call.{answerWords}
@@ -8,7 +9,7 @@ use Rattle.kelubashi.proofs.kelubashi1_propagate.Statement.{statement}
 use Rattle.kelubashi.proofs.kelubashi1_propagate.Tie as tie
 
 returns : tie.Need-returns
-returns c = wrong-length 15 _ _ _ (c .if1 .taken)
+returns c = wrong-length 15 _ (c .if1 .taken) _ _
 
 propagate-requires : tie.Need-propagate-requires
 propagate-requires c κs = search needs
@@ -16,20 +17,22 @@ propagate-requires c κs = search needs
 words-of-requires : tie.Need-words-of-requires
 words-of-requires c κs = search needs
 
-slice-aggregate-put : tie.Need-slice-aggregate-put
-slice-aggregate-put c = search needs
+slice-aggregate-copy-words : tie.Need-slice-aggregate-copy-words
+slice-aggregate-copy-words c = search needs
 
-put-requires : tie.Need-put-requires
-put-requires c κs = search needs
+copy-words-requires : tie.Need-copy-words-requires
+copy-words-requires c κs = search needs
 
 same-length : tie.Need-same-length
 same-length c = search needs
 
 returns-2 : tie.Need-returns-2
 returns-2 c =
-    let p = c .before .before .before .before .before .before .propagate .ensures in
-    right-length 15 (c .before .before .before .before .before .before .before .before .before .args .answer .now) (c .before .before .before .before .before .before .before .if1 .left) (ap (λ (a : Answer). a .refusal) p)
-    (c .before .before .put .ensures ∙ c .before .before .before .before .before .words-of .ensures ∙ ap answerWords p)
+    let w = c .before .before in
+    let words = w .before .before .before in
+    let p = words .before .propagate .ensures in
+    right-length 15 _ (words .before .before .if1 .left) (omega arith) (ap (λ (a : Answer). a .refusal) p) (w .copy-words .ensures)
+    (words .words-of .ensures ∙ ap answerWords p)
 
 pub kelubashi1-propagate-spec : {M : Type 1} → statement M
 kelubashi1-propagate-spec =
@@ -38,7 +41,7 @@ kelubashi1-propagate-spec =
     returns
     propagate-requires
     words-of-requires
-    slice-aggregate-put
-    put-requires
+    slice-aggregate-copy-words
+    copy-words-requires
     same-length
     returns-2)

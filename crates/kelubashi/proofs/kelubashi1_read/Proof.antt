@@ -1,13 +1,14 @@
 -- A run of another length is left as it was; else the reader's words are written.
 use mathlib.Core.Path.{_∙_, ap}
+use native.Mathlib.Omega.{arith}
 use borrow.Author.Needs.{needs}
-use Rattle.kelubashi.specs.Face.{readingWords, firstOf}
+use Rattle.kelubashi.specs.Face.{readingWords, numberIn}
 use Rattle.kelubashi.proofs.Face.{wrong-length, right-length}
 use Rattle.kelubashi.proofs.kelubashi1_read.Statement.{statement}
 use Rattle.kelubashi.proofs.kelubashi1_read.Tie as tie
 
 returns : tie.Need-returns
-returns c = wrong-length 8 (c .before .before .before .args .answer .now) _ _ (c .if1 .taken)
+returns c = wrong-length 8 (c .before .before .before .args .answer .now) (c .if1 .taken) _ _
 
 read-file-requires : tie.Need-read-file-requires
 read-file-requires c κs = search needs
@@ -15,11 +16,11 @@ read-file-requires c κs = search needs
 reading-words-requires : tie.Need-reading-words-requires
 reading-words-requires c κs = search needs
 
-slice-aggregate-put : tie.Need-slice-aggregate-put
-slice-aggregate-put c = search needs
+slice-aggregate-copy-words : tie.Need-slice-aggregate-copy-words
+slice-aggregate-copy-words c = search needs
 
-put-requires : tie.Need-put-requires
-put-requires c κs = search needs
+copy-words-requires : tie.Need-copy-words-requires
+copy-words-requires c κs = search needs
 
 array-read-result : tie.Need-array-read-result
 array-read-result c = search needs
@@ -29,8 +30,10 @@ same-length c = search needs
 
 returns-2 : tie.Need-returns-2
 returns-2 c =
-    let w = c .before .before .before .before .before .reading-words .ensures ∙ ap readingWords (c .before .before .before .before .before .before .read-file .ensures) in
-    right-length 8 (c .before .before .before .before .before .before .before .before .before .before .args .answer .now) (c .before .before .before .before .before .before .before .if1 .left) (ap firstOf w) (c .before .before .put .ensures ∙ w)
+    let w = c .before .before in
+    let words = w .before .before .before in
+    let e = words .reading-words .ensures ∙ ap readingWords (words .before .read-file .ensures) in
+    right-length 8 _ (words .before .before .if1 .left) (omega arith) (ap numberIn e) (w .copy-words .ensures) e
 
 pub kelubashi1-read-spec : {M : Type 1} → statement M
 kelubashi1-read-spec =
@@ -39,8 +42,8 @@ kelubashi1-read-spec =
     returns
     read-file-requires
     reading-words-requires
-    slice-aggregate-put
-    put-requires
+    slice-aggregate-copy-words
+    copy-words-requires
     array-read-result
     same-length
     returns-2)

@@ -1,5 +1,5 @@
 -- A run of another length is left as it was, and the room too; else the two words are written.
-use mathlib.Core.Path.{_∙_, ap}
+use mathlib.Core.Path.{refl, ap}
 use borrow.Author.Needs.{needs}
 use Rattle.files_results.specs.declared.Outcome.{Outcome}
 use Rattle.kelubashi.specs.Face.{outcomeWords}
@@ -10,17 +10,17 @@ use Rattle.kelubashi.proofs.kelubashi1_results.Tie as tie
 returns : tie.Need-returns
 returns c =
     let a = c .before .before .before .before .args in
-    let w = wrong-length 2 (a .answer .now) _ _ (c .if1 .taken) in
-    (w .0, w .1, left-lent 2 (a .answer .now) (a .room .now) _ (c .if1 .taken))
+    let w = wrong-length 2 (a .answer .now) (c .if1 .taken) _ _ in
+    (w .0, (w .1, left-lent 2 (a .answer .now) (c .if1 .taken) (a .room .now) _))
 
 write-results-requires : tie.Need-write-results-requires
 write-results-requires c κs = search needs
 
-slice-aggregate-put : tie.Need-slice-aggregate-put
-slice-aggregate-put c = search needs
+slice-aggregate-copy-words : tie.Need-slice-aggregate-copy-words
+slice-aggregate-copy-words c = search needs
 
-put-requires : tie.Need-put-requires
-put-requires c κs = search needs
+copy-words-requires : tie.Need-copy-words-requires
+copy-words-requires c κs = search needs
 
 same-length : tie.Need-same-length
 same-length c = search needs
@@ -30,11 +30,13 @@ same-length-2 c = search needs
 
 returns-2 : tie.Need-returns-2
 returns-2 c =
-    let run = c .before .before .before .before .before .before .before .before .before .before .before .before .before .args .answer .now in
-    let same = c .before .before .before .before .before .before .before .before .before .if1 .left in
-    let e = c .before .before .before .before .before .before .before .write-results .ensures in
-    let w = right-length 2 run same (ap (λ (o : Outcome). o .number) (e .0)) (c .before .before .put .ensures ∙ ap outcomeWords (e .0)) in
-    (w .0, w .1, made-lent 2 run _ same (e .1))
+    let w = c .before .before in
+    let f = w .before .before .before .before .before in
+    let e = f .write-results .ensures in
+    let args = f .before .before .before .before .before .before .args in
+    let same = f .before .before .if1 .left in
+    let a = right-length 2 _ same refl (ap (λ (o : Outcome). o .number) (e .0)) (w .copy-words .ensures) (ap outcomeWords (e .0)) in
+    (a .0, (a .1, made-lent 2 (args .answer .now) same (args .room .now) (e .1)))
 
 pub kelubashi1-results-spec : {M : Type 1} → statement M
 kelubashi1-results-spec =
@@ -42,8 +44,8 @@ kelubashi1-results-spec =
     (tie.spec
     returns
     write-results-requires
-    slice-aggregate-put
-    put-requires
+    slice-aggregate-copy-words
+    copy-words-requires
     same-length
     same-length-2
     returns-2)

@@ -1,7 +1,8 @@
 -- A run of another length is left as it was, and the room too; else the writer's words are written.
 use mathlib.Core.Path.{_∙_, ap}
+use native.Mathlib.Omega.{arith}
 use borrow.Author.Needs.{needs}
-use Rattle.kelubashi.specs.Face.{writingWords, firstOf}
+use Rattle.kelubashi.specs.Face.{writingWords, numberIn}
 use Rattle.kelubashi.proofs.Face.{wrong-length, right-length, left-lent, made-lent}
 use Rattle.kelubashi.proofs.kelubashi1_write.Statement.{statement}
 use Rattle.kelubashi.proofs.kelubashi1_write.Tie as tie
@@ -9,8 +10,8 @@ use Rattle.kelubashi.proofs.kelubashi1_write.Tie as tie
 returns : tie.Need-returns
 returns c =
     let a = c .before .before .before .before .before .before .args in
-    let w = wrong-length 2 (a .answer .now) _ _ (c .if1 .taken) in
-    (w .0, w .1, left-lent 2 (a .answer .now) (a .room .now) _ (c .if1 .taken))
+    let w = wrong-length 2 (a .answer .now) (c .if1 .taken) _ _ in
+    (w .0, (w .1, left-lent 2 (a .answer .now) (c .if1 .taken) (a .room .now) _))
 
 write-file-requires : tie.Need-write-file-requires
 write-file-requires c κs = search needs
@@ -18,11 +19,11 @@ write-file-requires c κs = search needs
 writing-words-requires : tie.Need-writing-words-requires
 writing-words-requires c κs = search needs
 
-slice-aggregate-put : tie.Need-slice-aggregate-put
-slice-aggregate-put c = search needs
+slice-aggregate-copy-words : tie.Need-slice-aggregate-copy-words
+slice-aggregate-copy-words c = search needs
 
-put-requires : tie.Need-put-requires
-put-requires c κs = search needs
+copy-words-requires : tie.Need-copy-words-requires
+copy-words-requires c κs = search needs
 
 array-read-result : tie.Need-array-read-result
 array-read-result c = search needs
@@ -35,12 +36,15 @@ same-length-2 c = search needs
 
 returns-2 : tie.Need-returns-2
 returns-2 c =
-    let run = c .before .before .before .before .before .before .before .before .before .before .before .before .before .before .before .before .args .answer .now in
-    let same = c .before .before .before .before .before .before .before .before .before .before .if1 .left in
-    let e = c .before .before .before .before .before .before .before .before .write-file .ensures in
-    let words = c .before .before .before .before .before .writing-words .ensures ∙ ap writingWords (e .0) in
-    let w = right-length 2 run same (ap firstOf words) (c .before .before .put .ensures ∙ words) in
-    (w .0, w .1, made-lent 2 run _ same (e .1))
+    let w = c .before .before in
+    let words = w .before .before .before in
+    let f = words .before .before .before in
+    let e = f .write-file .ensures in
+    let args = f .before .before .before .before .before .before .before .before .args in
+    let same = f .before .before .if1 .left in
+    let all = words .writing-words .ensures ∙ ap writingWords (e .0) in
+    let a = right-length 2 _ same (omega arith) (ap numberIn all) (w .copy-words .ensures) all in
+    (a .0, (a .1, made-lent 2 (args .answer .now) same (args .room .now) (e .1)))
 
 pub kelubashi1-write-spec : {M : Type 1} → statement M
 kelubashi1-write-spec =
@@ -49,8 +53,8 @@ kelubashi1-write-spec =
     returns
     write-file-requires
     writing-words-requires
-    slice-aggregate-put
-    put-requires
+    slice-aggregate-copy-words
+    copy-words-requires
     array-read-result
     same-length
     same-length-2

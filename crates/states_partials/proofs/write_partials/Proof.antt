@@ -1,102 +1,112 @@
--- The tests of the code are those of the definition; where none of them refuses, the run holds the words that `write_words` ensures.
-use mathlib.Core.Path.{_≡_, refl, sym, _∙_, ap}
+-- The tests of the code are those of the definition, at the words that the calls ensure; where none of them refuses, the run has these words.
+use mathlib.Core.Path.{_≡_, refl, sym, _∙_}
 use mathlib.Core.Bool.{true, false}
 use mathlib.Core.List.{List}
 use Prim.Native.Nat.{ℕ}
+use native.Mathlib.Omega.{arith}
 use borrow.Author.Needs.{needs}
 use borrow.Author.Tests.{eq-eqb, ne-eqb}
 use lib.ListN.{length}
-use lib.Ieee.{Float}
 use Rattle.bits.specs.Words.{wordsOf}
-use Rattle.states_arcs.specs.Finite.{allFinite, anyZero}
-use Rattle.states_partials.specs.Matrix.{divisorsOf}
-use Rattle.states_partials.specs.Entries.{entriesOf}
-use Rattle.states_partials.specs.Partials.{refusalOf, lentAfter}
+use Rattle.bits.specs.Runs.{has}
+use Rattle.bits.specs.declared.runs.Sought.the-variants.{Zero, NotFinite}
+use Rattle.bits.proofs.RunLaws.{copied-all}
 use Rattle.states_arcs.specs.declared.figures.Arc.{Arc}
+use Rattle.states_partials.specs.Matrix.{matrixDivisors}
+use Rattle.states_partials.specs.Entries.{entriesOf}
+use Rattle.states_partials.specs.Partials.{partialsRefusal, lentAfter}
 use Rattle.states_partials.proofs.write_partials.Statement.{statement}
 use Rattle.states_partials.proofs.write_partials.Tie as tie
 
 module _ (arc : Arc) (run : List ℕ) where
   abbrev Answers : ℕ → List ℕ → Type 0
-  Answers refusal after = (refusal ≡ refusalOf arc run) × (after ≡ lentAfter arc run)
+  Answers refusal after = (refusal ≡ partialsRefusal arc run) × (after ≡ lentAfter arc run)
 
   other-length : (length run ≡ 36 → ⊥) → Answers 1 run
-  unfolding refusalOf lentAfter
+  unfolding partialsRefusal lentAfter
   other-length h = rw (ne-eqb _ _ h) (refl, refl)
 
-  zero-divisor : length run ≡ 36 → anyZero (divisorsOf (arc .initial .r0) (arc .r)) ≡ true → Answers 8 run
-  unfolding refusalOf lentAfter
-  zero-divisor h z = rw (eq-eqb _ _ h, z) (refl, refl)
+  module _ (h : length run ≡ 36) (divisors : List ℕ) (ed : divisors ≡ wordsOf (matrixDivisors (arc .start .initial .r0) (arc .r))) where
+    zero-divisor : has Zero divisors ≡ true → Answers 8 run
+    unfolding partialsRefusal lentAfter
+    zero-divisor z = rw (eq-eqb _ _ h, ← ed, z) (refl, refl)
 
-  module _ (h : length run ≡ 36) (z : anyZero (divisorsOf (arc .initial .r0) (arc .r)) ≡ false) (table : List Float) (e : table ≡ entriesOf arc) where
-    not-finite : allFinite table ≡ false → Answers 8 run
-    unfolding refusalOf lentAfter
-    not-finite f = rw (eq-eqb _ _ h, z, ← e, f) (refl, refl)
+    module _ (z : has Zero divisors ≡ false) (table : List ℕ) (et : table ≡ wordsOf (entriesOf arc)) where
+      not-finite : has NotFinite table ≡ true → Answers 8 run
+      unfolding partialsRefusal lentAfter
+      not-finite f = rw (eq-eqb _ _ h, ← ed, z, ← et, f) (refl, refl)
 
-    written : allFinite table ≡ true → (after : List ℕ) → after ≡ wordsOf table → Answers 0 after
-    unfolding refusalOf lentAfter
-    written f after w = rw (eq-eqb _ _ h, z, ← e, f) (refl, w)
+      written : has NotFinite table ≡ false → Answers 0 table
+      unfolding partialsRefusal lentAfter
+      written f = rw (eq-eqb _ _ h, ← ed, z, ← et, f) (refl, refl)
 
 returns : tie.Need-returns
 returns c = other-length _ _ (c .if1 .taken)
 
-divisors-of-requires : tie.Need-divisors-of-requires
-divisors-of-requires c κs = search needs
+matrix-divisors-requires : tie.Need-matrix-divisors-requires
+matrix-divisors-requires c κs = search needs
 
-slice-aggregate-any-zero : tie.Need-slice-aggregate-any-zero
-slice-aggregate-any-zero c = search needs
+slice-aggregate-has : tie.Need-slice-aggregate-has
+slice-aggregate-has c = search needs
 
-any-zero-requires : tie.Need-any-zero-requires
-any-zero-requires c κs = search needs
+has-requires : tie.Need-has-requires
+has-requires c κs = search needs
 
 returns-2 : tie.Need-returns-2
 returns-2 c =
     let d = c .before .before .before in
-    zero-divisor _ _ (d .before .if1 .left) (ap anyZero (sym (d .divisors-of .ensures)) ∙ sym (c .before .any-zero .ensures) ∙ c .if2 .taken)
+    zero-divisor _ _ (d .before .if1 .left) _ (d .matrix-divisors .ensures) (sym (c .before .has .ensures) ∙ c .if2 .taken)
 
 entries-requires : tie.Need-entries-requires
 entries-requires c κs = search needs
 
-slice-aggregate-all-finite : tie.Need-slice-aggregate-all-finite
-slice-aggregate-all-finite c = search needs
+slice-aggregate-has-2 : tie.Need-slice-aggregate-has-2
+slice-aggregate-has-2 c = search needs
 
-all-finite-requires : tie.Need-all-finite-requires
-all-finite-requires c κs = search needs
+has-requires-2 : tie.Need-has-requires-2
+has-requires-2 c κs = search needs
 
-write-words-requires : tie.Need-write-words-requires
-write-words-requires c κs = (search needs, sym (c .before .before .all-finite .ensures) ∙ c .before .if3 .taken)
+returns-3 : tie.Need-returns-3
+returns-3 c =
+    let t = c .before .before .before in
+    let d = t .before .before .before .before in
+    not-finite _ _ (d .before .if1 .left) _ (d .matrix-divisors .ensures) (sym (t .before .before .has .ensures) ∙ t .before .if2 .left)
+    _ (t .entries .ensures) (sym (c .before .has2 .ensures) ∙ c .if3 .taken)
+
+slice-aggregate-copy-words : tie.Need-slice-aggregate-copy-words
+slice-aggregate-copy-words c = search needs
+
+copy-words-requires : tie.Need-copy-words-requires
+copy-words-requires c κs = search needs
 
 same-length : tie.Need-same-length
 same-length c = search needs
 
-returns-3 : tie.Need-returns-3
-returns-3 c =
-    let w = c .before .before in
-    let t = w .before .before .before .before .before in
-    let d = t .before .before .before .before in
-    written _ _ (d .before .if1 .left) (ap anyZero (sym (d .divisors-of .ensures)) ∙ sym (t .before .before .any-zero .ensures) ∙ t .before .if2 .left)
-    (t .entries .result) (t .entries .ensures) (sym (w .before .before .before .all-finite .ensures) ∙ w .before .before .if3 .taken) _ (w .write-words .ensures)
-
 returns-4 : tie.Need-returns-4
 returns-4 c =
-    let t = c .before .before .before in
+    let w = c .before .before in
+    let f = w .before .before .before in
+    let t = f .before .before .before in
     let d = t .before .before .before .before in
-    not-finite _ _ (d .before .if1 .left) (ap anyZero (sym (d .divisors-of .ensures)) ∙ sym (t .before .before .any-zero .ensures) ∙ t .before .if2 .left)
-    (t .entries .result) (t .entries .ensures) (sym (c .before .all-finite .ensures) ∙ c .if3 .left)
+    let same = d .before .if1 .left in
+    let a = written _ _ same _ (d .matrix-divisors .ensures) (sym (t .before .before .has .ensures) ∙ t .before .if2 .left)
+    _ (t .entries .ensures) (sym (f .before .has2 .ensures) ∙ f .if3 .left) in
+    (a .0, w .copy-words .ensures ∙ copied-all _ _ (omega (arith, same)) ∙ a .1)
 
 pub write-partials-spec : {M : Type 1} → statement M
 write-partials-spec =
     tie.close
     (tie.spec
     returns
-    divisors-of-requires
-    slice-aggregate-any-zero
-    any-zero-requires
+    matrix-divisors-requires
+    slice-aggregate-has
+    has-requires
     returns-2
     entries-requires
-    slice-aggregate-all-finite
-    all-finite-requires
-    write-words-requires
-    same-length
+    slice-aggregate-has-2
+    has-requires-2
     returns-3
+    slice-aggregate-copy-words
+    copy-words-requires
+    same-length
     returns-4)

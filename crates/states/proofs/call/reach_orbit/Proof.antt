@@ -1,15 +1,16 @@
--- Each arm is the definition at what the state began with.
+-- Each arm is the definition at what the orbit began with.
 use mathlib.Core.Path.{sym, _∙_, ap}
 use borrow.Author.Needs.{needs}
+use Rattle.states_start.specs.declared.figures.Begun.{Begun}
 use Rattle.states.specs.Call.{reachedOrbit, reachedBegun}
 use Rattle.states.proofs.call.reach_orbit.Statement.{statement}
 use Rattle.states.proofs.call.reach_orbit.Tie as tie
 
-initial-of-requires : tie.Need-initial-of-requires
-initial-of-requires c κs = search needs
+start-of-requires : tie.Need-start-of-requires
+start-of-requires c κs = search needs
 
-enum-known-figures : tie.Need-enum-known-figures
-enum-known-figures c = search needs
+enum-known-start : tie.Need-enum-known-start
+enum-known-start c = search needs
 
 reach-from-requires : tie.Need-reach-from-requires
 reach-from-requires c κs = search needs
@@ -19,18 +20,22 @@ enum-known-refusal c = search needs
 
 returns : tie.Need-returns
 unfolding reachedOrbit
-returns c = c .reach-from .ensures ∙ ap (reachedBegun (c .before .before .before .before .before .before .before .args .orbit)) (sym (c .before .before .before .figures .given .1) ∙ c .before .before .before .before .before .initial-of .ensures)
+returns c =
+    let s = c .before .before .before .before in
+    c .reach-from .ensures ∙ ap (λ (b : Begun). reachedBegun b (s .before .args .tau)) (sym (c .before .before .start .given .1) ∙ s .start-of .ensures)
 
 returns-2 : tie.Need-returns-2
 unfolding reachedOrbit
-returns-2 c = ap (reachedBegun (c .before .before .before .before .before .args .orbit)) (sym (c .before .refusal .given .1) ∙ c .before .before .before .initial-of .ensures)
+returns-2 c =
+    let s = c .before .before .before in
+    ap (λ (b : Begun). reachedBegun b (s .before .args .tau)) (sym (c .before .refusal .given .1) ∙ s .start-of .ensures)
 
 pub reach-orbit-spec : {M : Type 1} → statement M
 reach-orbit-spec =
     tie.close
     (tie.spec
-    initial-of-requires
-    enum-known-figures
+    start-of-requires
+    enum-known-start
     reach-from-requires
     enum-known-refusal
     returns

@@ -1,7 +1,7 @@
 -- A run of another length is refused first; else each arm is the definition at where the search led.
 use Prim.Native.Nat.{ℕ}
 use mathlib.Core.Path.{_≡_, sym, _∙_, ap}
-use mathlib.Core.Bool.{Bool}
+use mathlib.Core.Bool.{Bool, not}
 use mathlib.Core.List.{List}
 use borrow.Author.Tests.{eq-eqb, ne-eqb}
 use borrow.Author.Needs.{needs}
@@ -18,16 +18,16 @@ module _ (words run : List ℕ) where
   unfolding partialsOf lentOf
   wrong-length h =
       let e = sym (ne-eqb (length run) 36 h) in (
-        ap (λ (t : Bool). pick t (partialsBy (reachedOf words) run) (refused 1 0)) e,
-        ap (λ (t : Bool). pick t (lentBy (reachedOf words) run) run) e,
+        ap (λ (t : Bool). pick (not t) (refused 1 0) (partialsBy (reachedOf words) run)) e,
+        ap (λ (t : Bool). pick (not t) run (lentBy (reachedOf words) run)) e,
       )
 
   right-length : length run ≡ 36 → {x : Reached} → x ≡ reachedOf words → (partialsBy x run ≡ partialsOf words run) × (lentBy x run ≡ lentOf words run)
   unfolding partialsOf lentOf
   right-length h p =
       let e = sym (eq-eqb (length run) 36 h) in (
-        ap (λ (y : Reached). partialsBy y run) p ∙ ap (λ (t : Bool). pick t (partialsBy (reachedOf words) run) (refused 1 0)) e,
-        ap (λ (y : Reached). lentBy y run) p ∙ ap (λ (t : Bool). pick t (lentBy (reachedOf words) run) run) e,
+        ap (λ (y : Reached). partialsBy y run) p ∙ ap (λ (t : Bool). pick (not t) (refused 1 0) (partialsBy (reachedOf words) run)) e,
+        ap (λ (y : Reached). lentBy y run) p ∙ ap (λ (t : Bool). pick (not t) run (lentBy (reachedOf words) run)) e,
       )
 
 refused-with-requires : tie.Need-refused-with-requires

@@ -1,7 +1,7 @@
 -- What `write_partials` answers decides between the two.
 use Prim.Native.Nat.{ℕ}
 use mathlib.Core.Path.{_≡_, sym, _∙_, ap}
-use mathlib.Core.Bool.{Bool}
+use mathlib.Core.Bool.{Bool, not}
 use mathlib.Core.List.{List}
 use borrow.Author.Tests.{eq-eqb, ne-eqb}
 use borrow.Author.Needs.{needs}
@@ -9,7 +9,7 @@ use lib.Dec.{eqb}
 use Rattle.bits.specs.Choice.{pick}
 use Rattle.states_arcs.specs.declared.figures.Arc.{Arc}
 use Rattle.states_arcs.specs.declared.figures.Results.{Results}
-use Rattle.states_partials.specs.Partials.{refusalOf}
+use Rattle.states_partials.specs.Partials.{partialsRefusal}
 use Rattle.states.specs.declared.figures.Answer.{Answer}
 use Rattle.states.specs.Call.{refused, answered}
 use Rattle.states.specs.WithPartials.{withPartials}
@@ -18,15 +18,15 @@ use Rattle.states.proofs.partials.with_partials.Tie as tie
 
 module _ (arc : Arc) (n : ℕ) (r : Results) (run : List ℕ) where
   by : ℕ → Answer
-  by k = pick (eqb k 0) (answered n r) (refused k n)
+  by k = pick (not (eqb k 0)) (refused k n) (answered n r)
 
-  refuses : {k : ℕ} → k ≡ refusalOf arc run → (k ≡ 0 → ⊥) → refused k n ≡ withPartials arc n r run
+  refuses : {k : ℕ} → k ≡ partialsRefusal arc run → (k ≡ 0 → ⊥) → refused k n ≡ withPartials arc n r run
   unfolding withPartials by
-  refuses {k} e z = sym (ap (λ (t : Bool). pick t (answered n r) (refused k n)) (ne-eqb k 0 z)) ∙ ap by e
+  refuses {k} e z = sym (ap (λ (t : Bool). pick (not t) (refused k n) (answered n r)) (ne-eqb k 0 z)) ∙ ap by e
 
-  answers : {k : ℕ} → k ≡ refusalOf arc run → k ≡ 0 → answered n r ≡ withPartials arc n r run
+  answers : {k : ℕ} → k ≡ partialsRefusal arc run → k ≡ 0 → answered n r ≡ withPartials arc n r run
   unfolding withPartials by
-  answers {k} e z = sym (ap (λ (t : Bool). pick t (answered n r) (refused k n)) (eq-eqb k 0 z)) ∙ ap by e
+  answers {k} e z = sym (ap (λ (t : Bool). pick (not t) (refused k n) (answered n r)) (eq-eqb k 0 z)) ∙ ap by e
 
 write-partials-requires : tie.Need-write-partials-requires
 write-partials-requires c κs = search needs

@@ -8,16 +8,17 @@ use Rattle.series.specs.declared.figures.Coefficients.{Coefficients}
 use Rattle.series.specs.declared.figures.Seconds.{Seconds}
 use Rattle.series.specs.declared.figures.Sums.{Sums}
 use Rattle.search_points.specs.Residual.{radiusOf, termsOf}
-use Rattle.search_points.specs.declared.figures.Initial.{Initial}
-use Rattle.states_arcs.specs.Results.{factorsOf, endOf, arcOf}
+use Rattle.states_arcs.specs.Results.{factorsOf, endStateOf, arcOf}
 use Rattle.states_arcs.specs.declared.figures.Factors.{Factors}
-use Rattle.states_arcs.specs.declared.figures.State.{State}
+use Rattle.states_start.specs.declared.figures.State.{State}
+use Rattle.states_start.specs.declared.figures.Start.{Start}
 use Rattle.states_arcs.proofs.results.arc_at.Statement.{statement}
 use Rattle.states_arcs.proofs.results.arc_at.Tie as tie
 
-module _ (i : Initial) (tau : Seconds) (psi : Anomaly) (start : State) (c : Coefficients) (s : Sums) (r : Float) (k : Factors) (end : State) where
-  assembled : c ≡ coefficientsOf (i .alpha) psi → s ≡ sumsOf psi c → r ≡ radiusOf i (termsOf (c .c0) s) → k ≡ factorsOf i tau s r → end ≡ endOf k start
-      → record { initial = i; tau = tau; psi = psi; c = c; s = s; r = r; factors = k; start = start; end = end } ≡ arcOf i tau psi start
+module _ (start : Start) (tau : Seconds) (psi : Anomaly) (c : Coefficients) (s : Sums) (r : Float) (k : Factors) (end : State) where
+  assembled : c ≡ coefficientsOf (start .initial .alpha) psi → s ≡ sumsOf psi c → r ≡ radiusOf (start .initial) (termsOf (c .c0) s)
+      → k ≡ factorsOf (start .initial) tau s r → end ≡ endStateOf k (start .state)
+      → record { start = start; tau = tau; psi = psi; c = c; s = s; r = r; factors = k; end = end } ≡ arcOf start tau psi
   unfolding arcOf
   assembled ec es er ek ee = rw (ee, ek, er, es, ec)
 
@@ -33,15 +34,15 @@ radius-requires c κs = search needs
 factors-at-requires : tie.Need-factors-at-requires
 factors-at-requires c κs = search needs
 
-end-of-requires : tie.Need-end-of-requires
-end-of-requires c κs = search needs
+end-state-requires : tie.Need-end-state-requires
+end-state-requires c κs = search needs
 
 returns : tie.Need-returns
 returns c =
     let k = c .before in
     let r = k .before in
     let s = r .before in
-    assembled _ _ _ _ _ _ _ _ _ (s .before .coefficients .ensures) (s .sums .ensures) (r .radius .ensures) (k .factors-at .ensures) (c .end-of .ensures)
+    assembled _ _ _ _ _ _ _ _ (s .before .coefficients .ensures) (s .sums .ensures) (r .radius .ensures) (k .factors-at .ensures) (c .end-state .ensures)
 
 pub arc-at-spec : {M : Type 1} → statement M
 arc-at-spec =
@@ -51,5 +52,5 @@ arc-at-spec =
     sums-requires
     radius-requires
     factors-at-requires
-    end-of-requires
+    end-state-requires
     returns)

@@ -12,7 +12,7 @@ acceleration-at-requires-2 c κs = search needs
 
 returns : tie.Need-returns
 unfolding resultsOf
-returns c = simp (c .before .before .acceleration-at2 .ensures, c .before .before .before .acceleration-at .ensures)
+returns c = simp (c .before .acceleration-at2 .ensures, c .before .before .acceleration-at .ensures)
 
 pub results-of-spec : {M : Type 1} → statement M
 results-of-spec = tie.close (tie.spec acceleration-at-requires acceleration-at-requires-2 returns)

@@ -7,9 +7,10 @@ use native.Mathlib.Numerals.{add-one}
 use borrow.Author.Needs.{needs}
 use lib.ListN.{length, take, set, length-set}
 use lib.Seq.{take-suc-set, take-all}
-use lib.Ieee.{Float}
+use lib.Ieee.{Float, binary64, toBits}
+use Rattle.bits.specs.Words.{wordsOf}
 use Rattle.states_partials.specs.Matrix.{uOf, matrixOf}
-use Rattle.states_partials.specs.Entries.{entryOf, firstOf, rowByRow, entriesOf}
+use Rattle.states_partials.specs.Entries.{entryOf, upTo, rowByRow, entriesOf}
 use Rattle.states_arcs.specs.declared.figures.Arc.{Arc}
 use Rattle.states_partials.specs.declared.matrix.Matrix.{Matrix}
 use Rattle.states_partials.proofs.entries.entries.Statement.{statement}
@@ -20,24 +21,28 @@ abbrev placed : Arc → Matrix → ℕ → Float
 placed arc a n = entryOf arc a (n / 6) (n % 6)
 
 abbrev Inv-loop2 : tie.InvT-loop2
-Inv-loop2 arc a table₀ row column₀ table column = (length table ≡ 36) × (column ≤ 6) × (take (6 * row + column) table ≡ firstOf (6 * row + column) (placed arc a))
+Inv-loop2 arc a table₀ row column₀ table column = (length table ≡ 36) × (column ≤ 6) × (take (6 * row + column) table ≡ wordsOf (upTo (6 * row + column) (placed arc a)))
 
 abbrev μ-loop2 : tie.MeasureT-loop2
 μ-loop2 arc a table₀ row column₀ table column = 6 - column
 
 abbrev Inv-loop : tie.InvT-loop
-Inv-loop arc a table₀ row₀ table row = (length table ≡ 36) × (row ≤ 6) × (take (6 * row) table ≡ firstOf (6 * row) (placed arc a))
+Inv-loop arc a table₀ row₀ table row = (length table ≡ 36) × (row ≤ 6) × (take (6 * row) table ≡ wordsOf (upTo (6 * row) (placed arc a)))
 
 abbrev μ-loop : tie.MeasureT-loop
 μ-loop arc a table₀ row₀ table row = 6 - row
 
-more : (f : ℕ → Float) (table : List Float) (k : ℕ) (v : Float) → k < length table → take k table ≡ firstOf k f → v ≡ f k → take (k + 1) (set table k v) ≡ firstOf (k + 1) f
-unfolding firstOf
-more f table k v h e ev = rw add-one (take-suc-set table k v h ∙ (λ i. e i ++ (ev i ∷ [])))
+words-append : (xs : List Float) (x : Float) → wordsOf xs ++ (toBits binary64 x ∷ []) ≡ wordsOf (xs ++ (x ∷ []))
+words-append [] x = refl
+words-append (y ∷ xs) x = ap (λ (ws : List ℕ). toBits binary64 y ∷ ws) (words-append xs x)
 
-whole : (arc : Arc) (a : Matrix) (u : Float) → u ≡ uOf arc → a ≡ matrixOf arc u → rowByRow arc a ≡ entriesOf arc
+more : (f : ℕ → Float) (table : List ℕ) (k w : ℕ) → k < length table → take k table ≡ wordsOf (upTo k f) → w ≡ toBits binary64 (f k) → take (k + 1) (set table k w) ≡ wordsOf (upTo (k + 1) f)
+unfolding upTo
+more f table k w h e ew = rw add-one (take-suc-set table k w h ∙ (λ i. e i ++ (ew i ∷ [])) ∙ words-append (upTo k f) (f k))
+
+whole : (arc : Arc) (a : Matrix) (u : Float) → u ≡ uOf arc → a ≡ matrixOf arc u → wordsOf (rowByRow arc a) ≡ wordsOf (entriesOf arc)
 unfolding entriesOf
-whole arc a u eu ea = ap (rowByRow arc) (ea ∙ ap (matrixOf arc) eu)
+whole arc a u eu ea = ap (λ (b : Matrix). wordsOf (rowByRow arc b)) (ea ∙ ap (matrixOf arc) eu)
 
 in-place : (arc : Arc) (a : Matrix) (row column : ℕ) → column < 6 → entryOf arc a row column ≡ placed arc a (6 * row + column)
 in-place arc a row column h =
@@ -46,7 +51,7 @@ in-place arc a row column h =
     λ i. entryOf arc a (r i) (s i)
 
 -- The same list, at a number that is written otherwise.
-at-number : (f : ℕ → Float) (table : List Float) {m n : ℕ} → m ≡ n → take m table ≡ firstOf m f → take n table ≡ firstOf n f
+at-number : (f : ℕ → Float) (table : List ℕ) {m n : ℕ} → m ≡ n → take m table ≡ wordsOf (upTo m f) → take n table ≡ wordsOf (upTo n f)
 at-number f table e h = rw e at h
 
 u-of-requires : tie.Need-u-of-requires Inv-loop2 μ-loop2 Inv-loop μ-loop
@@ -56,7 +61,7 @@ matrix-of-requires : tie.Need-matrix-of-requires Inv-loop2 μ-loop2 Inv-loop μ-
 matrix-of-requires c κs = search needs
 
 loop-holds : tie.Need-loop-holds Inv-loop2 μ-loop2 Inv-loop μ-loop
-unfolding firstOf
+unfolding upTo
 loop-holds c = (refl, omega arith, refl)
 
 loop2-holds : tie.Need-loop2-holds Inv-loop2 μ-loop2 Inv-loop μ-loop
@@ -66,6 +71,9 @@ loop2-holds c =
 
 entry-requires : tie.Need-entry-requires Inv-loop2 μ-loop2 Inv-loop μ-loop
 entry-requires c κs = search needs
+
+word-of-requires : tie.Need-word-of-requires Inv-loop2 μ-loop2 Inv-loop μ-loop
+word-of-requires c κs = search needs
 
 mul-table : tie.Need-mul-table Inv-loop2 μ-loop2 Inv-loop μ-loop
 mul-table c = omega arith
@@ -87,12 +95,14 @@ loop2-less c = omega arith
 
 loop2-again : tie.Need-loop2-again Inv-loop2 μ-loop2 Inv-loop μ-loop
 loop2-again c =
-    let o = c .before .before .before .before .loop in
-    let at = c .before .before .loop2 in
-    let k = 6 * o .row + at .column in (
-      length-set (at .table) k (c .entry .result) ∙ at .inv .0,
+    let e = c .before in
+    let at = e .before .before .loop2 in
+    let o = e .before .before .before .before .loop in
+    let k = 6 * o .row + at .column in
+    let w = c .word-of .ensures ∙ ap (toBits binary64) (e .entry .ensures ∙ in-place _ _ (o .row) (at .column) (e .before .loop2-test .taken)) in (
+      length-set (at .table) k (c .word-of .result) ∙ at .inv .0,
       omega arith,
-      at-number _ _ (omega arith) (more _ (at .table) k (c .entry .result) (omega (arith, at .inv .0)) (at .inv .2) (c .entry .ensures ∙ in-place _ _ (o .row) (at .column) (c .before .loop2-test .taken))),
+      at-number _ _ (omega arith) (more _ (at .table) k (c .word-of .result) (omega (arith, at .inv .0)) (at .inv .2) w),
     )
 
 add-row : tie.Need-add-row Inv-loop2 μ-loop2 Inv-loop μ-loop
@@ -129,6 +139,7 @@ entries-spec =
     loop-holds
     loop2-holds
     entry-requires
+    word-of-requires
     mul-table
     add-table
     mul-table-2

@@ -1,0 +1,63 @@
+-- The kind of a word is `NotFinite` exactly where its field is 2047, and so exactly where its double is not finite.
+use mathlib.Core.Path.{_≡_, refl, sym, _∙_, ap}
+use mathlib.Core.Bool.{Bool, true, false}
+use Prim.Native.Nat.{ℕ}
+use native.Mathlib.Omega.{arith}
+use borrow.Author.Needs.{needs}
+use borrow.Author.Tests.{eqb-true, le-leb}
+use lib.Dec.{eqb, leb}
+use lib.Ieee.{binary64, ofBits}
+use Rattle.bits.specs.Arithmetic.{isFinite}
+use Rattle.bits.specs.Choice.{pick}
+use Rattle.bits.specs.Words.{fieldOf, kindOf}
+use Rattle.bits.specs.declared.words.Kind.{Kind}
+use Rattle.bits.specs.declared.words.Kind.the-variants.{ZeroOrSubnormal, Normal, NotFinite}
+use Rattle.bits.proofs.Doubles.{finite-by-field}
+use Rattle.bits.proofs.words.is_finite_word.Statement.{statement}
+use Rattle.bits.proofs.words.is_finite_word.Tie as tie
+
+finite-kind : Kind → Bool
+finite-kind ZeroOrSubnormal = true
+finite-kind Normal = true
+finite-kind NotFinite = false
+
+by-field : (n : ℕ) → finite-kind (pick (eqb n 0) ZeroOrSubnormal (pick (leb n 2046) Normal NotFinite)) ≡ leb n 2046
+unfolding finite-kind
+by-field n = go (eqb n 0) (leb n 2046) (λ e. le-leb n 2046 (omega (arith, eqb-true n 0 e)))
+  where
+    go : (a b : Bool) → (a ≡ true → b ≡ true) → finite-kind (pick a ZeroOrSubnormal (pick b Normal NotFinite)) ≡ b
+    go true b h = sym (h refl)
+    go false true h = refl
+    go false false h = refl
+
+by-kind : (w : ℕ) (k : Kind) → k ≡ kindOf w → finite-kind k ≡ isFinite (ofBits binary64 w)
+by-kind w k e = ap finite-kind e ∙ by-field (fieldOf w) ∙ sym (finite-by-field w)
+
+kind-of-requires : tie.Need-kind-of-requires
+kind-of-requires c κs = search needs
+
+enum-told : tie.Need-enum-told
+enum-told c = search needs
+
+enum-told-2 : tie.Need-enum-told-2
+enum-told-2 c = search needs
+
+enum-told-3 : tie.Need-enum-told-3
+enum-told-3 c = search needs
+
+returns : tie.Need-returns
+unfolding finite-kind
+returns c = by-kind _ ZeroOrSubnormal (sym (c .enum-told .given .1) ∙ c .before .before .kind-of .ensures)
+
+returns-2 : tie.Need-returns-2
+unfolding finite-kind
+returns-2 c = by-kind _ Normal (sym (c .enum-told2 .given .1) ∙ c .before .before .kind-of .ensures)
+
+returns-3 : tie.Need-returns-3
+unfolding finite-kind
+returns-3 c = by-kind _ NotFinite (sym (c .enum-told3 .given .1) ∙ c .before .before .kind-of .ensures)
+
+pub is-finite-word-spec : {M : Type 1} → statement M
+is-finite-word-spec =
+    tie.close
+    (tie.spec kind-of-requires enum-told enum-told-2 enum-told-3 returns returns-2 returns-3)

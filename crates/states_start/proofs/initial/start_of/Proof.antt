@@ -1,0 +1,88 @@
+-- The tests of the code are those of the definition, at the figures that the calls ensure.
+use mathlib.Core.Path.{_≡_, sym, _∙_, ap}
+use mathlib.Core.Bool.{Bool, true, false}
+use mathlib.Core.List.{List, [], _∷_}
+use Prim.Native.Nat.{ℕ}
+use borrow.Author.Needs.{needs}
+use lib.Ieee.{Float, eq}
+use Rattle.bits.specs.Choice.{pick}
+use Rattle.bits.specs.Arithmetic.{_⊖_, _⊗_, _⊘_, n0, n2}
+use Rattle.bits.specs.Words.{wordsOf}
+use Rattle.bits.specs.Runs.{has}
+use Rattle.bits.specs.Root.{rootOf}
+use Rattle.bits.specs.declared.runs.Sought.the-variants.{NotFinite}
+use Rattle.states_start.specs.Initial.{dot, begunFrom, begunOf}
+use Rattle.states_start.specs.declared.figures.Orbit.{Orbit}
+use Rattle.states_start.specs.declared.figures.Begun.the-variants.{Start, Refused}
+use Rattle.states_start.proofs.initial.start_of.Statement.{statement}
+use Rattle.states_start.proofs.initial.start_of.Tie as tie
+
+at-zero : (o : Orbit) (sum : Float) → sum ≡ dot (o .state .position) (o .state .position) → eq sum n0 ≡ true → Refused 3 ≡ begunOf o
+unfolding begunOf
+at-zero o sum es z = rw (← es, z)
+
+module _ (o : Orbit) (sum r0 sigma0 v2 : Float) (words : List ℕ)
+    (es : sum ≡ dot (o .state .position) (o .state .position)) (er : r0 ≡ rootOf sum)
+    (eg : sigma0 ≡ dot (o .state .position) (o .state .velocity)) (ev : v2 ≡ dot (o .state .velocity) (o .state .velocity))
+    (z : eq sum n0 ≡ false)
+    (ew : words ≡ wordsOf (sum ∷ sigma0 ∷ v2 ∷ ((n2 ⊗ o .mu) ⊘ r0) ∷ (v2 ⊖ (n2 ⊗ o .mu) ⊘ r0) ∷ [])) where
+  from-calls : begunFrom o sum r0 sigma0 v2 ≡ begunOf o
+  unfolding begunOf
+  from-calls = λ i. begunFrom o (es i) ((er ∙ ap rootOf es) i) (eg i) (ev i)
+
+  decided : (b : Bool) → b ≡ has NotFinite words
+      → pick b (Refused 4) (Start (record { state = o .state; initial = record { mu = o .mu; r0 = r0; sigma0 = sigma0; alpha = v2 ⊖ (n2 ⊗ o .mu) ⊘ r0 } })) ≡ begunOf o
+  decided b h = sym (rw (z, ← ew, ← h)) ∙ from-calls
+
+product-requires : tie.Need-product-requires
+product-requires c κs = search needs
+
+returns : tie.Need-returns
+returns c = at-zero _ _ (c .before .product .ensures) (c .if1 .taken)
+
+root-of-figure-requires : tie.Need-root-of-figure-requires
+root-of-figure-requires c κs = search needs
+
+product-requires-2 : tie.Need-product-requires-2
+product-requires-2 c κs = search needs
+
+product-requires-3 : tie.Need-product-requires-3
+product-requires-3 c κs = search needs
+
+tested-requires : tie.Need-tested-requires
+tested-requires c κs = search needs
+
+slice-aggregate-has : tie.Need-slice-aggregate-has
+slice-aggregate-has c = search needs
+
+has-requires : tie.Need-has-requires
+has-requires c κs = search needs
+
+returns-2 : tie.Need-returns-2
+returns-2 c =
+    let v = c .before .before .before .before in
+    let r = v .before .before in
+    decided _ _ _ _ _ _ (r .before .before .product .ensures) (r .root-of-figure .ensures .1) (v .before .product2 .ensures) (v .product3 .ensures)
+    (r .before .if1 .left) (c .before .before .before .tested .ensures) true (sym (c .if2 .taken) ∙ c .before .has .ensures)
+
+returns-3 : tie.Need-returns-3
+returns-3 c =
+    let v = c .before .before .before .before in
+    let r = v .before .before in
+    decided _ _ _ _ _ _ (r .before .before .product .ensures) (r .root-of-figure .ensures .1) (v .before .product2 .ensures) (v .product3 .ensures)
+    (r .before .if1 .left) (c .before .before .before .tested .ensures) false (sym (c .if2 .left) ∙ c .before .has .ensures)
+
+pub start-of-spec : {M : Type 1} → statement M
+start-of-spec =
+    tie.close
+    (tie.spec
+    product-requires
+    returns
+    root-of-figure-requires
+    product-requires-2
+    product-requires-3
+    tested-requires
+    slice-aggregate-has
+    has-requires
+    returns-2
+    returns-3)

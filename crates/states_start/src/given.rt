@@ -1,0 +1,48 @@
+// The eight words that come in: mu, x, y, z, vx, vy, vz, tau.
+ghost use mathlib.Core.Path.{_≡_};
+ghost use mathlib.Core.Bool.{false};
+ghost use Prim.Native.Nat.{_+_, _<_};
+ghost use Rattle.bits.specs.Runs.{has};
+ghost use Rattle.bits.specs.declared.runs.Sought.the-variants.{NotFinite};
+ghost use Rattle.states_start.specs.Given.{doubleAt, vectorAt, readOf};
+use super::figures::Orbit;
+use super::figures::Read;
+use super::figures::State;
+use super::figures::Vector;
+use bits::Sought;
+use series::Seconds;
+
+// The double of one of eight finite words.
+fn double_at(words: [u64; 8], k: usize) -> f64
+    requires { ⌜ (has NotFinite words ≡ false) × (k < 8) ⌝ }
+    ensures { λ r. ⌜ r ≡ doubleAt words k ⌝ }
+{
+    f64::from_bits(words[k])
+}
+
+// The vector of one of them and the next two.
+fn vector_at(words: [u64; 8], k: usize) -> Vector
+    requires { ⌜ (has NotFinite words ≡ false) × (k + 2 < 8) ⌝ }
+    ensures { λ r. ⌜ r ≡ vectorAt words k ⌝ }
+{
+    Vector {
+        x: double_at(words, k),
+        y: double_at(words, k + 1),
+        z: double_at(words, k + 2),
+    }
+}
+
+// The orbit and the interval of eight words, if all are finite (refusal 2).
+pub fn orbit_of(words: [u64; 8]) -> Read
+    ensures { λ r. ⌜ r ≡ readOf words ⌝ }
+{
+    let first = bits::first_of(&words, Sought::NotFinite);
+    if first < 8 {
+        return Read::NotFinite(first as u64);
+    }
+    let position = vector_at(words, 1);
+    let velocity = vector_at(words, 4);
+    let state = State { position, velocity };
+    let mu = double_at(words, 0);
+    Read::Orbit(Orbit { mu, state }, Seconds(double_at(words, 7)))
+}
