@@ -7,18 +7,19 @@ use borrow.Author.Tests.{le-leb, eq-eqb}
 use lib.ListN.{length, length-append}
 use Rattle.files_words.specs.Words.{wordAt, wordsFrom, written, Below}
 use Rattle.files_words.proofs.WordLaws.{next-word, no-word, whole-file, words-after, length-written, below-append}
-use Rattle.files_sections.specs.declared.Section.{Section}
-use Rattle.files_sections.specs.declared.Section.the-variants.{Centres, States, Requests}
-use Rattle.files_sections.specs.declared.Check.{Check}
-use Rattle.files_sections.specs.declared.Check.the-variants.{Sound}
-use Rattle.files_sections.specs.Sections.{widthOf, statesPlace, requestsPlace, endPlace}
+use Rattle.files_sections.specs.declared.sections.Section.{Section}
+use Rattle.files_sections.specs.declared.sections.Section.the-variants.{Centres, States, Requests}
+use Rattle.files_sections.specs.declared.checks.Check.{Check}
+use Rattle.files_sections.specs.declared.checks.Check.the-variants.{Sound}
+use Rattle.files_sections.specs.Sections.{elementEdition, widthOf, sectionCheck, centresPlace, statesPlace, requestsPlace, endPlace}
+use Rattle.files_sections.specs.Checks.{_⟫_}
 use Rattle.files_sections.proofs.CheckLaws.{both, sound-both, sound-need}
 use Rattle.files_sections.proofs.RecordLaws.{limit-bound}
-use Rattle.files_reader.specs.Reader.{editionCheck, requestsCheck, statesCheck, centresCheck, fileCheck, sectionCheck}
-use Rattle.files_reader.proofs.Accepted.{edition-sound, centres-sound, states-sound, requests-sound, nothing-left}
+use Rattle.files_reader.specs.Reader.{editionCheck, endCheck, fileCheck}
+use Rattle.files_reader.proofs.Accepted.{edition-sound, centres-sound, states-sound, requests-sound, sound-length}
 use Rattle.files.specs.Writer.{recordsIn, wholeCheck, wholeChecks, limitChecks, numberCheck, numberChecks, lengthOf, refusalOf, sectionWords, fileWords, fileOf}
 use Rattle.files.proofs.WriteLaws.{fits, numbers-sound}
-use Rattle.files.proofs.SectionLaws.{Proper, records-of, no-rest, of-records, runAt, read-proper, read-words, read-end, found-count, found-sound, found-run}
+use Rattle.files.proofs.SectionLaws.{Proper, records-of, no-rest, of-records, runAt, read-proper, read-words, found-count, found-sound, found-run}
 
 -- Runs that are sound sections of these counts, each where it would stand.
 pub record ProperFile (C S R : List ℕ) (c s r : ℕ) : Type 0 where
@@ -122,14 +123,11 @@ module _ (file : List ℕ) (sound : fileCheck file ≡ Sound) where
         third = read-proper file (requestsPlace c s) Requests s (requests-sound file sound);
       }
 
-  pub read-length : length file ≡ endPlace c s r
-  read-length = omega (arith, nothing-left file sound, read-end file (requestsPlace c s) Requests s (requests-sound file sound))
-
   words-are : wordsFrom file 0 ≡ fileWords C S R
   unfolding fileWords
   words-are =
       let A : List ℕ = 1 ∷ [] in
-      let last : wordsFrom file (endPlace c s r) ≡ [] = no-word file (endPlace c s r) (omega (arith, read-length)) in
+      let last : wordsFrom file (endPlace c s r) ≡ [] = no-word file (endPlace c s r) (omega (arith, sound-length file sound)) in
       next-word file 0 (edition-sound file sound .0)
       ∙ ap₂ _∷_ (edition-sound file sound .1)
       (read-words file 8 Centres 0 (centres-sound file sound)
@@ -147,7 +145,7 @@ module _ (file : List ℕ) (sound : fileCheck file ≡ Sound) where
   unfolding fileOf
   read-bytes h =
       let n = 4 + c + 8 * s + 2 * r in
-      ap written (sym words-are) ∙ whole-file file n h (omega (arith, read-length))
+      ap written (sym words-are) ∙ whole-file file n h (omega (arith, sound-length file sound))
 
 module _ (C S R : List ℕ) (c s r : ℕ) (p : ProperFile C S R c s r) (bc : Below (2 ^ 64) C) (bs : Below (2 ^ 64) S) (br : Below (2 ^ 64) R) where
   abbrev file : List ℕ
@@ -224,6 +222,14 @@ module _ (C S R : List ℕ) (c s r : ℕ) (p : ProperFile C S R c s r) (bc : Bel
   pub requests-count : wordAt file (requestsPlace c s) ≡ r
   requests-count = found-count file (requestsPlace c s) Requests s r R [] (room-8 .2) at-requests (p .third)
 
+  -- The counts, each found where the ones before it tell.
+  pub counts-are : (wordAt file 8 ≡ c)
+      × (wordAt file (statesPlace (wordAt file 8)) ≡ s)
+      × (wordAt file (requestsPlace (wordAt file 8) (wordAt file (statesPlace (wordAt file 8)))) ≡ r)
+  counts-are =
+      let fs = ap (λ (k : ℕ). wordAt file (statesPlace k)) centres-count ∙ states-count in
+      (centres-count, fs, ap₂ (λ (k l : ℕ). wordAt file (requestsPlace k l)) centres-count fs ∙ requests-count)
+
   pub centres-held : runAt file 8 Centres ≡ C
   centres-held = found-run file 8 Centres 0 c C rest (room-8 .0) at-centres (p .first)
 
@@ -241,28 +247,23 @@ module _ (C S R : List ℕ) (c s r : ℕ) (p : ProperFile C S R c s r) (bc : Bel
       let one : wordAt file 0 ≡ 1 = cc first in
       sound-both _ _ (sound-need _ 21 0 (le-leb _ _ whole)) (sound-need _ 22 0 (eq-eqb (wordAt file 0) 1 one))
 
-  from-requests : requestsCheck file c s ≡ Sound
-  unfolding requestsCheck
-  from-requests =
-      let end : length file ≤ endPlace c s (wordAt file (requestsPlace c s)) = omega (arith, file-length, requests-count) in
-      sound-both (sectionCheck file (requestsPlace c s) Requests s) _
-      (found-sound file (requestsPlace c s) Requests s r R [] (room-8 .2) at-requests (p .third))
-      (sound-need _ 25 (endPlace c s (wordAt file (requestsPlace c s))) (le-leb _ _ end))
-
-  from-states : statesCheck file c ≡ Sound
-  unfolding statesCheck
-  from-states =
-      sound-both (sectionCheck file (statesPlace c) States c) _
-      (found-sound file (statesPlace c) States c s S (sectionWords Requests R) (room-8 .1) at-states (p .second))
-      (ap (requestsCheck file c) states-count ∙ from-requests)
-
-  from-centres : centresCheck file ≡ Sound
-  unfolding centresCheck
-  from-centres =
-      sound-both (sectionCheck file 8 Centres 0) _
-      (found-sound file 8 Centres 0 c C rest (room-8 .0) at-centres (p .first))
-      (ap (statesCheck file) centres-count ∙ from-states)
-
   pub file-sound : fileCheck file ≡ Sound
-  unfolding fileCheck centresCheck statesCheck requestsCheck
-  file-sound = sound-both (editionCheck file) _ edition from-centres
+  unfolding fileCheck
+  file-sound =
+      let end : length file ≤ endPlace c s r = omega (arith, file-length) in
+      let checks : ℕ → ℕ → ℕ → Check =
+      λ c s r.
+      editionCheck file
+      ⟫ sectionCheck file centresPlace Centres 0
+      ⟫ sectionCheck file (statesPlace c) States c
+      ⟫ sectionCheck file (requestsPlace c s) Requests s
+      ⟫ endCheck file (endPlace c s r)
+      in
+      (λ i. checks (counts-are .0 i) (counts-are .1 i) (counts-are .2 i))
+      ∙ sound-both (editionCheck file) _ edition
+      (sound-both (sectionCheck file centresPlace Centres 0) _ (found-sound file 8 Centres 0 c C rest (room-8 .0) at-centres (p .first))
+      (sound-both (sectionCheck file (statesPlace c) States c) _
+      (found-sound file (statesPlace c) States c s S (sectionWords Requests R) (room-8 .1) at-states (p .second))
+      (sound-both (sectionCheck file (requestsPlace c s) Requests s) _
+      (found-sound file (requestsPlace c s) Requests s r R [] (room-8 .2) at-requests (p .third))
+      (sound-need _ 25 (endPlace c s r) (le-leb _ _ end)))))

@@ -8,10 +8,11 @@ use lib.ListN.{length, length-append}
 use Rattle.files_words.specs.Words.{bytesOf, written, put}
 use Rattle.files_words.proofs.WordLaws.{length-written, written-append}
 use Rattle.files_words.proofs.PutLaws.{put-next}
-use Rattle.files_sections.specs.declared.Section.the-variants.{Centres, States, Requests}
-use Rattle.files_sections.specs.declared.Check.{Check}
-use Rattle.files_sections.specs.declared.Check.the-variants.{Sound}
-use Rattle.files_sections.specs.Sections.{limitOf, statesPlace, requestsPlace, _⟫_}
+use Rattle.files_sections.specs.declared.sections.Section.the-variants.{Centres, States, Requests}
+use Rattle.files_sections.specs.declared.checks.Check.{Check}
+use Rattle.files_sections.specs.declared.checks.Check.the-variants.{Sound}
+use Rattle.files_sections.specs.Checks.{_⟫_}
+use Rattle.files_sections.specs.Sections.{limitOf, statesPlace, requestsPlace}
 use Rattle.files_sections.proofs.CheckLaws.{both, needed}
 use Rattle.files.specs.Writer.{recordsIn, wholeChecks, limitChecks, numberChecks, roomCheck, lengthOf, refusalOf, sectionWords, fileWords, fileOf, Fits}
 

@@ -7,11 +7,12 @@ use mathlib.Core.List.{List, [], _∷_, _++_}
 use lib.Dec.{leb, eqb}
 use lib.ListN.{length}
 use Rattle.files_words.specs.Words.{written, put}
-use Rattle.files_sections.specs.declared.Section.{Section}
-use Rattle.files_sections.specs.declared.Section.the-variants.{Centres, States, Requests}
-use Rattle.files_sections.specs.declared.Check.{Check}
-use Rattle.files_sections.specs.declared.Check.the-variants.{Sound, Fault}
-use Rattle.files_sections.specs.Sections.{widthOf, limitOf, statesPlace, requestsPlace, endPlace, ruleOf, need, _⟫_, walk}
+use Rattle.files_sections.specs.declared.sections.Section.{Section}
+use Rattle.files_sections.specs.declared.sections.Section.the-variants.{Centres, States, Requests}
+use Rattle.files_sections.specs.declared.checks.Check.{Check}
+use Rattle.files_sections.specs.declared.checks.Check.the-variants.{Sound, Fault}
+use Rattle.files_sections.specs.Checks.{need, _⟫_, walk, rulingOf}
+use Rattle.files_sections.specs.Sections.{elementEdition, widthOf, limitOf, ruleOf, centresPlace, statesPlace, requestsPlace, endPlace}
 use Rattle.files.specs.declared.Writing.{Writing}
 use Rattle.files.specs.declared.Writing.the-variants.{Length, Refused}
 
@@ -32,20 +33,20 @@ limitCheck section place count = need (leb count (limitOf section)) 23 place
 
 unfoldable pub limitChecks : ℕ → ℕ → ℕ → Check
 limitChecks centres states requests =
-    limitCheck Centres 8 centres
+    limitCheck Centres centresPlace centres
     ⟫ limitCheck States (statesPlace centres) states
     ⟫ limitCheck Requests (requestsPlace centres states) requests
 
 -- ---- 24: the walk of the reader, over the words that would follow each count word.
 abbrev pub numberCheck : Section → ℕ → ℕ → List ℕ → Check
-numberCheck section below place run = walk (ruleOf section below) (place + 8) 0 (length run) run
+numberCheck section below place run = walk (rulingOf (ruleOf section below)) (place + 8) [] (length run) run
 
 unfoldable pub numberChecks : List ℕ → List ℕ → List ℕ → Check
 unfolding walk
 numberChecks centres states requests =
     let c = recordsIn Centres (length centres) in
     let s = recordsIn States (length states) in
-    numberCheck Centres 0 8 centres
+    numberCheck Centres 0 centresPlace centres
     ⟫ numberCheck States c (statesPlace c) states
     ⟫ numberCheck Requests s (requestsPlace c s) requests
 
@@ -73,7 +74,7 @@ abbrev pub sectionWords : Section → List ℕ → List ℕ
 sectionWords section run = recordsIn section (length run) ∷ run
 
 unfoldable pub fileWords : List ℕ → List ℕ → List ℕ → List ℕ
-fileWords centres states requests = (1 ∷ []) ++ sectionWords Centres centres ++ sectionWords States states ++ sectionWords Requests requests
+fileWords centres states requests = (elementEdition ∷ []) ++ sectionWords Centres centres ++ sectionWords States states ++ sectionWords Requests requests
 
 unfoldable pub fileOf : List ℕ → List ℕ → List ℕ → List ℕ
 unfolding written fileWords

@@ -1,5 +1,5 @@
--- The counts of an accepted file are small; a result file is its rows, one after another.
-use mathlib.Core.Path.{_≡_, refl, sym, ap, _∙_, subst}
+-- A result file is its rows, one after another.
+use mathlib.Core.Path.{_≡_, refl, sym, ap, _∙_}
 use mathlib.Core.List.{List, [], _∷_}
 use Prim.Native.Nat.{ℕ, zero, suc, _*_, _<_, _≤_}
 use native.Mathlib.Omega.{arith}
@@ -10,22 +10,9 @@ use Rattle.states.specs.Call.{answerWords}
 use Rattle.files_words.specs.Words.{written, put}
 use Rattle.files_words.proofs.WordLaws.{length-written, written-append}
 use Rattle.files_words.proofs.PutLaws.{put-next, put-outside, length-put}
-use Rattle.files_reader.specs.Reader.{sectionsOf}
 use Rattle.files_reader.specs.declared.Places.{Places}
-use Rattle.files_reader.proofs.Accepted.{counts-within}
-use Rattle.files.proofs.Laws.{accepted-sound}
 use Rattle.files_results.specs.Requests.{requestWords}
-use Rattle.files_results.specs.Results.{Accepted, rowOf, rowsOf, rowPlace, sectionsWords, fits}
-
--- ---- Counts.
-abbrev pub Small : Places → Type 0
-Small p = (p .centres .count ≤ 16) × (p .states .count ≤ 500) × (p .requests .count ≤ 1500)
-
-pub small : (file : List ℕ) (places : Places) → Accepted file places → Small places
-unfolding sectionsOf
-small file places e =
-    let a = accepted-sound file places e in
-    subst Small (a .1) (counts-within file (a .0))
+use Rattle.files_results.specs.Results.{rowOf, rowsOf, rowPlace, sectionsWords, fits}
 
 -- ---- Rows.
 pub row-length : (words : List ℕ) → length (rowOf words) ≡ 11

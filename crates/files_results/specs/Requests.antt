@@ -10,8 +10,8 @@ use Rattle.bits.specs.declared.words.Figure.{Figure}
 use Rattle.bits.specs.declared.words.Figure.the-variants as figure
 use Rattle.files_words.specs.Words.{wordAt}
 use Rattle.files_sections.specs.Sections.{widthOf}
-use Rattle.files_sections.specs.declared.Section.{Section}
-use Rattle.files_sections.specs.declared.Section.the-variants.{Centres, States, Requests}
+use Rattle.files_sections.specs.declared.sections.Section.{Section}
+use Rattle.files_sections.specs.declared.sections.Section.the-variants.{Centres, States, Requests}
 use Rattle.files_reader.specs.declared.Located.{Located}
 use Rattle.files_reader.specs.declared.Places.{Places}
 

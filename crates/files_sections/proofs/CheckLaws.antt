@@ -3,9 +3,9 @@ use Prim.Native.Nat.{ℕ, zero, suc}
 use native.Mathlib.Omega.{arith}
 use mathlib.Core.Path.{_≡_, refl, sym, ap, _∙_}
 use mathlib.Core.Bool.{Bool, true, false}
-use Rattle.files_sections.specs.declared.Check.{Check}
-use Rattle.files_sections.specs.declared.Check.the-variants.{Sound, Fault}
-use Rattle.files_sections.specs.Sections.{need, told, _⟫_}
+use Rattle.files_sections.specs.declared.checks.Check.{Check}
+use Rattle.files_sections.specs.declared.checks.Check.the-variants.{Sound, Fault}
+use Rattle.files_sections.specs.Checks.{need, told, _⟫_}
 
 pub fault-is-not-sound : {number place : ℕ} {A : Type 0} → Fault number place ≡ Sound → A
 fault-is-not-sound e = let z : _≡_ {A = ℕ} 0 1 = cc in absurd (omega arith)

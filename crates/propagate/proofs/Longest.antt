@@ -13,11 +13,12 @@ use Rattle.files_words.proofs.PutLaws.{put-fits, length-put}
 use Rattle.files_reader.specs.Reader.{readingOf}
 use Rattle.files_reader.specs.declared.Reading.{Reading}
 use Rattle.files_reader.specs.declared.Reading.the-variants.{Sections, Refused}
+use Rattle.files_reader.proofs.Accepted.{accepted-counts}
 use Rattle.files_results.specs.Results.{resultBy, resultFile}
-use Rattle.files_results.proofs.Rows.{small, result-length}
+use Rattle.files_results.proofs.Rows.{result-length}
 
 longest-by : (file : List ℕ) (reading : Reading) → readingOf file ≡ reading → length (written (resultBy file reading)) ≤ 132016
-longest-by file (Sections places) e = omega (arith, result-length file places, small file places e)
+longest-by file (Sections places) e = omega (arith, result-length file places, accepted-counts file places e)
 longest-by file (Refused number place) e = omega (arith, length-written (1 ∷ 0 ∷ number ∷ []))
 
 pub longest : (file : List ℕ) → length (resultFile file) ≤ 132016

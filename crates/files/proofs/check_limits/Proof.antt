@@ -4,7 +4,7 @@ use native.Mathlib.Omega.{arith}
 use mathlib.Core.Path.{sym, ap, _∙_}
 use borrow.Author.Needs.{needs}
 use borrow.Author.Tests.{leb-true}
-use Rattle.files_sections.specs.declared.Section.the-variants.{States, Requests}
+use Rattle.files_sections.specs.declared.sections.Section.the-variants.{States, Requests}
 use Rattle.files_sections.proofs.CheckLaws.{needed, stops, goes-on}
 use Rattle.files.specs.Writer.{limitCheck, limitChecks}
 use Rattle.files.proofs.check_limits.Statement.{statement}

@@ -3,9 +3,9 @@ use Prim.Native.Nat.{ℕ}
 use mathlib.Core.Path.{_≡_, sym, ap, ap₂, _∙_}
 use borrow.Author.Needs.{needs}
 use lib.ListN.{length}
-use Rattle.files_sections.specs.declared.Section.the-variants.{Centres, States, Requests}
-use Rattle.files_sections.specs.declared.Check.{Check}
-use Rattle.files_sections.specs.Sections.{_⟫_}
+use Rattle.files_sections.specs.declared.sections.Section.the-variants.{Centres, States, Requests}
+use Rattle.files_sections.specs.declared.checks.Check.{Check}
+use Rattle.files_sections.specs.Checks.{_⟫_}
 use Rattle.files_sections.proofs.CheckLaws.{stops, goes-on}
 use Rattle.files.specs.Writer.{recordsIn, limitChecks, roomCheck, refusalOf, Within}
 use Rattle.files.proofs.WriteLaws.{limits-sound}

@@ -3,7 +3,7 @@ use Prim.Native.Nat.{ℕ}
 use mathlib.Core.Path.{ap, ap₂, _∙_}
 use borrow.Author.Needs.{needs}
 use Rattle.files_words.specs.Words.{written, put}
-use Rattle.files_sections.specs.declared.Section.the-variants.{States, Requests}
+use Rattle.files_sections.specs.declared.sections.Section.the-variants.{States, Requests}
 use Rattle.files_sections.specs.Sections.{statesPlace, requestsPlace}
 use Rattle.files.specs.Writer.{sectionWords}
 use Rattle.files.proofs.WriteLaws.{file-put}

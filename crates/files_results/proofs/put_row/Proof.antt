@@ -8,7 +8,7 @@ use lib.ListN.{length, take, length-take}
 use Rattle.states_arcs.specs.Results.{figuresOf}
 use Rattle.states.specs.Call.{answerWords, propagateOf}
 use Rattle.files_words.specs.Words.{written, put}
-use Rattle.files_results.proofs.Rows.{small}
+use Rattle.files_reader.proofs.Accepted.{accepted-counts}
 use Rattle.files_results.specs.Results.{rowOf}
 use Rattle.files_results.proofs.put_row.Statement.{statement}
 use Rattle.files_results.proofs.put_row.Tie as tie
@@ -23,10 +23,10 @@ words-of-requires : tie.Need-words-of-requires
 words-of-requires c κs = search needs
 
 mul-put-words : tie.Need-mul-put-words
-mul-put-words c = omega (arith, small (c .before .before .before .before .before .before .args .file .now) (c .before .before .before .before .before .before .args .places) (c .before .before .before .before .before .before .pre .0), c .before .before .before .before .before .before .pre .1)
+mul-put-words c = omega (arith, accepted-counts (c .before .before .before .before .before .before .args .file .now) (c .before .before .before .before .before .before .args .places) (c .before .before .before .before .before .before .pre .0), c .before .before .before .before .before .before .pre .1)
 
 add-put-words : tie.Need-add-put-words
-add-put-words c = omega (arith, small (c .before .before .before .before .before .before .args .file .now) (c .before .before .before .before .before .before .args .places) (c .before .before .before .before .before .before .pre .0), c .before .before .before .before .before .before .pre .1)
+add-put-words c = omega (arith, accepted-counts (c .before .before .before .before .before .before .args .file .now) (c .before .before .before .before .before .before .args .places) (c .before .before .before .before .before .before .pre .0), c .before .before .before .before .before .before .pre .1)
 
 array-share-prefix-words : tie.Need-array-share-prefix-words
 array-share-prefix-words c = search needs

@@ -5,16 +5,17 @@ use mathlib.Core.List.{List}
 use native.Mathlib.Omega.{arith}
 use borrow.Author.Needs.{needs}
 use Rattle.files_words.specs.Words.{written, put}
-use Rattle.files_results.proofs.Rows.{small, result-length, all-rows, too-short, long-enough}
+use Rattle.files_results.proofs.Rows.{result-length, all-rows, too-short, long-enough}
+use Rattle.files_reader.proofs.Accepted.{accepted-counts}
 use Rattle.files_results.specs.Results.{rowsOf, sectionsWords}
 use Rattle.files_results.proofs.write_accepted.Statement.{statement}
 use Rattle.files_results.proofs.write_accepted.Tie as tie
 
 mul-length : tie.Need-mul-length
-mul-length c = omega (arith, small (c .before .before .args .file .now) (c .before .before .args .places) (c .before .before .pre))
+mul-length c = omega (arith, accepted-counts (c .before .before .args .file .now) (c .before .before .args .places) (c .before .before .pre))
 
 add-length : tie.Need-add-length
-add-length c = omega (arith, small (c .before .before .args .file .now) (c .before .before .args .places) (c .before .before .pre))
+add-length c = omega (arith, accepted-counts (c .before .before .args .file .now) (c .before .before .args .places) (c .before .before .pre))
 
 returns : tie.Need-returns
 returns c =
