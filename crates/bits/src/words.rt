@@ -1,6 +1,6 @@
 // A double crosses every border of this project as its 64-bit word: a sign bit, 11 bits of exponent field, 52 digits.
 ghost use mathlib.Core.Path.{_≡_};
-ghost use lib.Ieee.{binary64, toBits};
+ghost use lib.Ieee.{binary64, ofBits, toBits};
 ghost use Rattle.bits.specs.Arithmetic.{isFinite};
 ghost use Rattle.bits.specs.Words.{kindOf, figureOf};
 
@@ -8,6 +8,8 @@ ghost use Rattle.bits.specs.Words.{kindOf, figureOf};
 pub const SIGN: u64 = 0x8000_0000_0000_0000;
 // The weight of the exponent field's lowest bit: one more than the largest number that the 52 digits hold.
 pub const FIELD: u64 = 0x0010_0000_0000_0000;
+// The word of plus infinity: with the sign bit taken off, only the words of NaNs are above it.
+pub const INFINITY: u64 = 0x7ff0_0000_0000_0000;
 
 // What the exponent field says of a double.
 pub enum Kind {
@@ -43,6 +45,16 @@ pub fn figure_of(word: u64) -> Figure
         Kind::Normal => Figure::Finite(f64::from_bits(word)),
         Kind::NotFinite => Figure::NotFinite,
     }
+}
+
+// The double of any word; every NaN is one value.
+pub fn double_of(word: u64) -> f64
+    ensures { λ r. ⌜ r ≡ ofBits binary64 word ⌝ }
+{
+    if word % SIGN > INFINITY {
+        return 0.0 / 0.0;
+    }
+    f64::from_bits(word)
 }
 
 // Whether a double is neither a NaN nor an infinity.

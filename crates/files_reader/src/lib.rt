@@ -14,6 +14,9 @@ use files_sections::states_place;
 use files_words::is_whole;
 use files_words::word_at;
 
+// The bytes of the longest file that can be accepted (`accepted-length`).
+pub const LONGEST_FILE: usize = 56_160;
+
 // A section of a file: the place of its count word, and the count.
 pub struct Located {
     pub place: usize,

@@ -18,7 +18,7 @@ use Rattle.states_start.specs.Initial.{dot, begunOf, firstStepOf}
 use Rattle.states.specs.Call.{refused, answered, reachedBy, reachedFrom, reachedOrbit, reachedOf, endedAnswer, propagateOf, answerWords}
 use Rattle.files_words.specs.Words.{written}
 use Rattle.files_reader.specs.Reader.{readingOf}
-use Rattle.files_results.specs.Requests.{tauSince, tauWord, eightWords, requestWords}
+use Rattle.files_results.specs.Requests.{requestWords}
 use Rattle.files_results.specs.Results.{rowOf, rowsOf, resultFile}
 
 -- What a case asks for: the root of a word; the coefficients at L = +0, by α and ψ; a call of eight words; the result file of an element file. All are words.
@@ -103,5 +103,5 @@ table =
 
 -- Each case of the table gives what it must.
 pub marked : map (λ (c : Case). given (c .asked)) table ≡ map (λ (c : Case). c .must) table
-unfolding resultFile readingOf rowsOf rowOf requestWords eightWords tauWord tauSince propagateOf answerWords reachedOf reachedOrbit reachedFrom reachedBy endedAnswer answered refused readOf firstNotFinite begunOf dot firstStepOf endedOf figuresOf resultsOf accelerationOf arcOf endOf factorsOf divisorsOf allFinite anyZero searchOf history inward round halving outward onward counted trialAt evaluatedAt unevaluated sortOf anomalyAt timeErrorOf radiusOf coefficientsOf sumsOf quotientsOf doublings atReduced c4Of c5Of nested reducedFrom beyondOne rootOf rootWordOf written add sub mul div neg lt eq ne ofBits toBits
+unfolding resultFile readingOf rowsOf rowOf requestWords propagateOf answerWords reachedOf reachedOrbit reachedFrom reachedBy endedAnswer answered refused readOf firstNotFinite begunOf dot firstStepOf endedOf figuresOf resultsOf accelerationOf arcOf endOf factorsOf divisorsOf allFinite anyZero searchOf history inward round halving outward onward counted trialAt evaluatedAt unevaluated sortOf anomalyAt timeErrorOf radiusOf coefficientsOf sumsOf quotientsOf doublings atReduced c4Of c5Of nested reducedFrom beyondOne rootOf rootWordOf written add sub mul div neg lt eq ne ofBits toBits
 marked = refl

@@ -27,6 +27,25 @@ widthOf Centres = 1
 widthOf States = 8
 widthOf Requests = 2
 
+-- The words of a state and of a request, by their names; x y z are three words from the position's on, vx vy vz three from the velocity's.
+abbrev pub stateCentre : ℕ
+stateCentre = 0
+
+abbrev pub stateEpoch : ℕ
+stateEpoch = 1
+
+abbrev pub statePosition : ℕ
+statePosition = 2
+
+abbrev pub stateVelocity : ℕ
+stateVelocity = 5
+
+abbrev pub requestState : ℕ
+requestState = 0
+
+abbrev pub requestTime : ℕ
+requestTime = 1
+
 -- The first word of a state is the number of one of the centres, the first word of a request that of one of the states; `below` is how many of those there are.
 abbrev pub ruleOf : Section → (below : ℕ) → Rule
 ruleOf Centres below = Any
@@ -37,7 +56,7 @@ ruleOf Requests below = Numbers below (widthOf Requests)
 abbrev pub sectionCheck : List ℕ → (place : ℕ) → Section → (below : ℕ) → Check
 sectionCheck file place section below = countedCheck file place (limitOf section) (widthOf section) (rulingOf (ruleOf section below))
 
--- ---- "A section place is the byte of its count word." The place after a section of so many records; with the edition before them, the centres stand at 8.
+-- ---- "A section place is the byte of its count word." The place after so many records of a section; with the edition before them, the centres stand at 8.
 abbrev pub after : Section → ℕ → ℕ → ℕ
 after section place count = place + 8 + 8 * (count * widthOf section)
 

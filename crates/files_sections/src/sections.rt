@@ -8,6 +8,21 @@ pub const ELEMENT_EDITION: u64 = 1;
 // The place of the centres: after the edition.
 pub const CENTRES_PLACE: usize = 8;
 
+// The most requests that a file may have.
+pub const MOST_REQUESTS: u16 = 1500;
+// The words of a state's record: the number of its centre, its epoch, the three of its position, the three of its velocity.
+pub const STATE_CENTRE: usize = 0;
+
+pub const STATE_EPOCH: usize = 1;
+
+pub const STATE_POSITION: usize = 2;
+
+pub const STATE_VELOCITY: usize = 5;
+// The words of a request's record: the number of its state, its time.
+pub const REQUEST_STATE: usize = 0;
+
+pub const REQUEST_TIME: usize = 1;
+
 // Which section, in the order of the file.
 pub enum Section {
     Centres,
@@ -23,7 +38,7 @@ impl Section {
         match self {
             Section::Centres => 16,
             Section::States => 500,
-            Section::Requests => 1500,
+            Section::Requests => MOST_REQUESTS,
         }
     }
 

@@ -45,4 +45,4 @@ firstOf words = getD words 0 0
 
 -- The results' answer: number, then the length written or needed.
 abbrev pub outcomeWords : Outcome → List ℕ
-outcomeWords o = o .number ∷ o .length ∷ []
+outcomeWords o = o .number ∷ o .size ∷ []

@@ -116,6 +116,6 @@ pub extern "C" fn kelubashi1_results(file: &[u8], room: &mut [u8], answer: &mut 
         return 60;
     }
     let outcome = files_results::write_results(file, room);
-    answers::put(&[outcome.number, outcome.length as u64], answer);
+    answers::put(&[outcome.number, outcome.size as u64], answer);
     outcome.number
 }

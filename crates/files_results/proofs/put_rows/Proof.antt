@@ -14,20 +14,20 @@ use Rattle.files_results.proofs.put_rows.Statement.{statement}
 use Rattle.files_results.proofs.put_rows.Tie as tie
 
 module _ (file : List ℕ) (places : Places) (room : List ℕ) (n : ℕ) where
-  start : 16 ≤ length room → room ≡ put room 16 (written (rowsOf file places (n - n)))
+  start : rowPlace 0 ≤ length room → room ≡ put room (rowPlace 0) (written (rowsOf file places (n - n)))
   unfolding rowsOf written
   start h =
       let e : n - n ≡ 0 = omega arith in
-      sym (ap (λ (k : ℕ). put room 16 (written (rowsOf file places k))) e ∙ put-nothing room 16 h)
+      sym (ap (λ (k : ℕ). put room (rowPlace 0) (written (rowsOf file places k))) e ∙ put-nothing room (rowPlace 0) h)
 
   next : (left : ℕ) → 0 < left → left ≤ n → rowPlace n ≤ length room
-      → put (put room 16 (written (rowsOf file places (n - left)))) (rowPlace (n - left)) (written (rowOf (requestWords file places (n - left)))) ≡ put room 16 (written (rowsOf file places (n - (left - 1))))
+      → put (put room (rowPlace 0) (written (rowsOf file places (n - left)))) (rowPlace (n - left)) (written (rowOf (requestWords file places (n - left)))) ≡ put room (rowPlace 0) (written (rowsOf file places (n - (left - 1))))
   next left h l r =
       let e : suc (n - left) ≡ n - (left - 1) = omega arith in
-      row-after file places room (n - left) (omega arith) ∙ ap (λ (k : ℕ). put room 16 (written (rowsOf file places k))) e
+      row-after file places room (n - left) (omega arith) ∙ ap (λ (k : ℕ). put room (rowPlace 0) (written (rowsOf file places k))) e
 
 abbrev Inv-loop : tie.InvT-loop
-Inv-loop file places room₀ n left₀ room left = (left ≤ n) × (room ≡ put room₀ 16 (written (rowsOf file places (n - left))))
+Inv-loop file places room₀ n left₀ room left = (left ≤ n) × (room ≡ put room₀ (rowPlace 0) (written (rowsOf file places (n - left))))
 
 abbrev μ-loop : tie.MeasureT-loop
 μ-loop file places room₀ n left₀ room left = left
@@ -71,7 +71,7 @@ returns c =
     let l = c .before .loop in
     let n = a .places .requests .count in
     let e : n - l .left ≡ n = omega arith in
-    l .inv .1 ∙ ap (λ (k : ℕ). put (a .room .now) 16 (written (rowsOf (a .file .now) (a .places) k))) e
+    l .inv .1 ∙ ap (λ (k : ℕ). put (a .room .now) (rowPlace 0) (written (rowsOf (a .file .now) (a .places) k))) e
 
 pub put-rows-spec : {M : Type 1} → statement M
 put-rows-spec =
