@@ -5,14 +5,14 @@ use mathlib.Core.Path.{_≡_, refl, ap, sym, subst, _∙_}
 use mathlib.Core.List.{List, _++_}
 use lib.ListN.{length, take, drop}
 use lib.Seq.{take-at}
-use Rattle.files_words.specs.Words.{wordAt, put, wordsFrom, Below}
+use Rattle.files_words.specs.Bytes.{wordAt, put, wordsFrom, Below}
 use Rattle.files_words.proofs.WordLaws.{words-below, below-take, below-drop}
 use Rattle.files_words.proofs.PutLaws.{put-fits}
 use Rattle.files_sections.specs.declared.sections.Section.{Section}
 use Rattle.files_sections.specs.declared.sections.Section.the-variants.{Centres, States, Requests}
 use Rattle.files_sections.specs.declared.checks.Check.{Check}
 use Rattle.files_sections.specs.declared.checks.Check.the-variants.{Sound, Fault}
-use Rattle.files_sections.specs.Sections.{widthOf, centresPlace, statesPlace, requestsPlace, endPlace}
+use Rattle.files_sections.specs.Sections.{widthOf, statesPlace, requestsPlace, endPlace}
 use Rattle.files_reader.specs.declared.Located.{Located}
 use Rattle.files_reader.specs.declared.Places.{Places}
 use Rattle.files_reader.specs.declared.Reading.{Reading}
@@ -20,11 +20,12 @@ use Rattle.files_reader.specs.declared.Reading.the-variants.{Sections, Refused}
 use Rattle.files_reader.specs.Reader.{fileCheck, placesOf, sectionsOf, readingBy, readingOf}
 use Rattle.files_reader.proofs.Accepted.{sound-length, accepted-sound}
 use Rattle.files.specs.declared.Writing.the-variants.{Length}
-use Rattle.files.specs.Writer.{recordsIn, lengthOf, refusalOf, fileOf, writingBy, roomBy, writingOf, roomOf}
+use Rattle.files.specs.Writer.{recordsIn, sizeOf, writeCheck, fileOf, writingBy, roomBy, writingOf, roomOf}
 use Rattle.files.specs.Held.{held, ReadsAs, WrittenAs, Writable}
 use Rattle.files.proofs.WriteLaws.{fits}
 use Rattle.files.proofs.SectionLaws.{runAt}
-use Rattle.files.proofs.FileLaws.{ProperFile, accepted-proper, proper-accepted, proper-length, read-file-proper, read-bytes, file-length, file-sound, centres-count, states-count, requests-count, counts-are, centres-held, states-held, requests-held}
+use Rattle.files.proofs.FileLaws.{ProperFile, accepted-proper, proper-accepted, proper-size, read-file-proper, read-bytes, file-length, file-sound}
+use Rattle.files.proofs.FileLaws.{centres-count, states-count, requests-count, counts-are, centres-held, states-held, requests-held}
 
 -- ---- Answers and checks.
 
@@ -33,15 +34,15 @@ write-by Sound n m e = (refl, cc)
 write-by (Fault number place) n m e = let z : _≡_ {A = ℕ} 0 1 = cc in absurd (omega arith)
 
 module _ (C S R room : List ℕ) where
-  written-sound : (n : ℕ) → writingOf C S R room ≡ Length n → (refusalOf C S R (length room) ≡ Sound) × (lengthOf (length C) (length S) (length R) ≡ n)
+  answered-sound : (n : ℕ) → writingOf C S R room ≡ Length n → (writeCheck C S R (length room) ≡ Sound) × (sizeOf (length C) (length S) (length R) ≡ n)
   unfolding writingOf
-  written-sound n e = write-by _ _ n e
+  answered-sound n e = write-by _ _ n e
 
-  sound-written : refusalOf C S R (length room) ≡ Sound →
-      (writingOf C S R room ≡ Length (lengthOf (length C) (length S) (length R))) × (roomOf C S R room ≡ put room 0 (fileOf C S R))
+  sound-answered : writeCheck C S R (length room) ≡ Sound →
+      (writingOf C S R room ≡ Length (sizeOf (length C) (length S) (length R))) × (roomOf C S R room ≡ put room 0 (fileOf C S R))
   unfolding writingOf roomOf
-  sound-written e = (
-    ap (λ (k : Check). writingBy k (lengthOf (length C) (length S) (length R))) e,
+  sound-answered e = (
+    ap (λ (k : Check). writingBy k (sizeOf (length C) (length S) (length R))) e,
     ap (λ (k : Check). roomBy k room (fileOf C S R)) e,
   )
 
@@ -66,9 +67,9 @@ again file bytes sound room h =
     let R = runAt file (requestsPlace c s) Requests in
     let p = read-file-proper file sound in
     let long : length file ≡ endPlace c s r = sound-length file sound in
-    let w = sound-written C S R room (proper-accepted C S R c s r p (length room) (omega arith)) in
+    let w = sound-answered C S R room (proper-accepted C S R c s r p (length room) (omega arith)) in
     record {
-      accepted = w .0 ∙ ap Length (proper-length C S R c s r p ∙ sym long);
+      accepted = w .0 ∙ ap Length (proper-size C S R c s r p ∙ sym long);
       same = w .1 ∙ ap (put room 0) (read-bytes file sound bytes) ∙ at-start room file h;
     }
 
@@ -102,8 +103,8 @@ back C S R c s r p bc bs br =
     }
 
 module _ (C S R room : List ℕ) (n : ℕ) (e : writingOf C S R room ≡ Length n) (bc : Below (2 ^ 64) C) (bs : Below (2 ^ 64) S) (br : Below (2 ^ 64) R) where
-  sound : refusalOf C S R (length room) ≡ Sound
-  sound = written-sound C S R room n e .0
+  sound : writeCheck C S R (length room) ≡ Sound
+  sound = answered-sound C S R room n e .0
 
   abbrev c : ℕ
   c = recordsIn Centres (length C)
@@ -118,12 +119,12 @@ module _ (C S R room : List ℕ) (n : ℕ) (e : writingOf C S R room ≡ Length 
   proper = accepted-proper C S R (length room) sound
 
   long : length (fileOf C S R) ≡ n
-  long = file-length C S R c s r proper bc bs br ∙ sym (proper-length C S R c s r proper) ∙ written-sound C S R room n e .1
+  long = file-length C S R c s r proper bc bs br ∙ sym (proper-size C S R c s r proper) ∙ answered-sound C S R room n e .1
 
   pub written-file : WrittenAs C S R room (fileOf C S R)
   written-file =
-      let enough : length (fileOf C S R) ≤ length room = omega (arith, fits C S R (length room) sound .roomy, written-sound C S R room n e .1, long) in
-      record { accepted = e ∙ ap Length (sym long); same = sound-written C S R room sound .1 ∙ at-start room (fileOf C S R) enough }
+      let enough : length (fileOf C S R) ≤ length room = omega (arith, fits C S R (length room) sound .roomy, answered-sound C S R room n e .1, long) in
+      record { accepted = e ∙ ap Length (sym long); same = sound-answered C S R room sound .1 ∙ at-start room (fileOf C S R) enough }
 
   pub reads-back : ReadsAs (take n (roomOf C S R room)) (placesOf c s r) C S R
   reads-back =

@@ -6,7 +6,7 @@ use mathlib.Core.List.{List, [], _∷_, _++_}
 use borrow.Author.Tests.{le-leb}
 use lib.ListN.{length, take, drop, take-append-drop}
 use lib.Seq.{length-take-le, take-at}
-use Rattle.files_words.specs.Words.{wordAt, wordsFrom}
+use Rattle.files_words.specs.Bytes.{wordAt, wordsFrom}
 use Rattle.files_words.proofs.WordLaws.{next-word, words-later}
 use Rattle.files_sections.specs.declared.sections.Section.{Section}
 use Rattle.files_sections.specs.declared.sections.Section.the-variants.{Centres, States, Requests}
@@ -104,7 +104,7 @@ module _ (file : List ℕ) (place : ℕ) (section : Section) (below count : ℕ)
 
     walked : walk (rulingOf (ruleOf section below)) (place + 8) [] (wordAt file place * widthOf section) (wordsFrom file (place + 8)) ≡ Sound
     walked =
-        ap₂ (λ (n : ℕ) (ws : List ℕ). walk (rulingOf (ruleOf section below)) (place + 8) [] n ws) (ap (λ (c : ℕ). c * widthOf section) found-count ∙ sym (proper .size)) found-words
+        ap₂ (walk (rulingOf (ruleOf section below)) (place + 8) []) (ap (λ (c : ℕ). c * widthOf section) found-count ∙ sym (proper .size)) found-words
         ∙ walk-front (rulingOf (ruleOf section below)) (place + 8) [] (length run) run rest (omega arith)
         ∙ proper .numbers
 

@@ -6,7 +6,7 @@ use mathlib.Core.Path.{_≡_}
 use mathlib.Core.List.{List, [], _∷_, _++_}
 use lib.Dec.{leb, eqb}
 use lib.ListN.{length}
-use Rattle.files_words.specs.Words.{written, put}
+use Rattle.files_words.specs.Bytes.{asBytes, put}
 use Rattle.files_sections.specs.declared.sections.Section.{Section}
 use Rattle.files_sections.specs.declared.sections.Section.the-variants.{Centres, States, Requests}
 use Rattle.files_sections.specs.declared.checks.Check.{Check}
@@ -50,24 +50,24 @@ numberChecks centres states requests =
     ⟫ numberCheck States c (statesPlace c) states
     ⟫ numberCheck Requests s (requestsPlace c s) requests
 
--- ---- 26, by the length that runs of so many words make.
-abbrev pub lengthOf : ℕ → ℕ → ℕ → ℕ
-lengthOf centres states requests = endPlace (recordsIn Centres centres) (recordsIn States states) (recordsIn Requests requests)
+-- ---- 26, by the bytes of the file that runs of so many words make.
+abbrev pub sizeOf : ℕ → ℕ → ℕ → ℕ
+sizeOf centres states requests = endPlace (recordsIn Centres centres) (recordsIn States states) (recordsIn Requests requests)
 
 abbrev pub roomCheck : ℕ → ℕ → Check
-roomCheck length room = need (leb length room) 26 length
+roomCheck size room = need (leb size room) 26 size
 
 -- ---- "refuses in this order: 27 .., 23, 24, 26".
-unfoldable pub refusalOf : List ℕ → List ℕ → List ℕ → ℕ → Check
+unfoldable pub writeCheck : List ℕ → List ℕ → List ℕ → ℕ → Check
 unfolding wholeChecks limitChecks numberChecks
-refusalOf centres states requests room =
+writeCheck centres states requests room =
     let c = length centres in
     let s = length states in
     let r = length requests in
     wholeChecks c s r
     ⟫ limitChecks (recordsIn Centres c) (recordsIn States s) (recordsIn Requests r)
     ⟫ numberChecks centres states requests
-    ⟫ roomCheck (lengthOf c s r) room
+    ⟫ roomCheck (sizeOf c s r) room
 
 -- ---- "the edition, 1; then sections in a fixed order, each after its count".
 abbrev pub sectionWords : Section → List ℕ → List ℕ
@@ -77,26 +77,26 @@ unfoldable pub fileWords : List ℕ → List ℕ → List ℕ → List ℕ
 fileWords centres states requests = (elementEdition ∷ []) ++ sectionWords Centres centres ++ sectionWords States states ++ sectionWords Requests requests
 
 unfoldable pub fileOf : List ℕ → List ℕ → List ℕ → List ℕ
-unfolding written fileWords
-fileOf centres states requests = written (fileWords centres states requests)
+unfolding asBytes fileWords
+fileOf centres states requests = asBytes (fileWords centres states requests)
 
 -- ---- "Else it answers the length. Room beyond the file keeps its bytes." A refusal leaves the whole room as it was.
 abbrev pub writingBy : Check → ℕ → Writing
-writingBy Sound length = Length length
-writingBy (Fault number place) length = Refused number place
+writingBy Sound size = Length size
+writingBy (Fault number place) size = Refused number place
 
 abbrev pub roomBy : Check → List ℕ → List ℕ → List ℕ
 roomBy Sound room file = put room 0 file
 roomBy (Fault number place) room file = room
 
 unfoldable pub writingOf : List ℕ → List ℕ → List ℕ → List ℕ → Writing
-unfolding refusalOf
+unfolding writeCheck
 writingOf centres states requests room =
-    writingBy (refusalOf centres states requests (length room)) (lengthOf (length centres) (length states) (length requests))
+    writingBy (writeCheck centres states requests (length room)) (sizeOf (length centres) (length states) (length requests))
 
 unfoldable pub roomOf : List ℕ → List ℕ → List ℕ → List ℕ → List ℕ
-unfolding refusalOf fileOf put
-roomOf centres states requests room = roomBy (refusalOf centres states requests (length room)) room (fileOf centres states requests)
+unfolding writeCheck fileOf put
+roomOf centres states requests room = roomBy (writeCheck centres states requests (length room)) room (fileOf centres states requests)
 
 -- ---- What the writer's inner steps go by: runs of so many words are within the limits, and runs are whole records within them, with room for their file.
 pub record Within (centres states requests : ℕ) : Type 0 where
@@ -109,4 +109,4 @@ pub record Fits (centres states requests : List ℕ) (room : ℕ) : Type 0 where
   pub whole-states : length states % widthOf States ≡ 0
   pub whole-requests : length requests % widthOf Requests ≡ 0
   pub within : Within (length centres) (length states) (length requests)
-  pub roomy : lengthOf (length centres) (length states) (length requests) ≤ room
+  pub roomy : sizeOf (length centres) (length states) (length requests) ≤ room

@@ -3,9 +3,10 @@ ghost use mathlib.Core.Path.{_≡_};
 ghost use mathlib.Core.List.{[]};
 ghost use Prim.Native.Nat.{_+_, _*_, _^_, _<_, _≤_};
 ghost use lib.ListN.{length};
-ghost use Rattle.files_words.specs.Words.{put, written};
+ghost use Rattle.files_words.specs.Bytes.{put, asBytes};
 ghost use Rattle.files_sections.specs.Checks.{rulingOf, walk};
-ghost use Rattle.files.specs.Writer.{recordsIn, wholeCheck, wholeChecks, limitCheck, limitChecks, numberCheck, numberChecks, roomCheck, lengthOf, Within, Fits, refusalOf, sectionWords, fileOf, writingOf, roomOf};
+ghost use Rattle.files.specs.Writer.{recordsIn, wholeCheck, wholeChecks, limitCheck, limitChecks, numberCheck, numberChecks, sizeOf, roomCheck};
+ghost use Rattle.files.specs.Writer.{Within, Fits, writeCheck, sectionWords, fileOf, writingOf, roomOf};
 use files_sections::CENTRES_PLACE;
 use files_sections::Check;
 use files_sections::ELEMENT_EDITION;
@@ -128,10 +129,10 @@ fn check_numbers(centres: &[u64], states: &[u64], requests: &[u64]) -> Check
     )
 }
 
-// The length of the file that runs of so many words make.
-fn file_length(centres: usize, states: usize, requests: usize) -> usize
+// The bytes of the file that runs of so many words make.
+fn file_size(centres: usize, states: usize, requests: usize) -> usize
     requires { ⌜ Within centres states requests ⌝ }
-    ensures { λ r. ⌜ r ≡ lengthOf centres states requests ⌝ }
+    ensures { λ r. ⌜ r ≡ sizeOf centres states requests ⌝ }
 {
     end_place(
         records(Section::Centres, centres) as u16,
@@ -141,15 +142,15 @@ fn file_length(centres: usize, states: usize, requests: usize) -> usize
 }
 
 // 26: less room than the file needs.
-fn check_room(length: usize, room: usize) -> Check
-    ensures { λ r. ⌜ r ≡ roomCheck length room ⌝ }
+fn check_room(size: usize, room: usize) -> Check
+    ensures { λ r. ⌜ r ≡ roomCheck size room ⌝ }
 {
-    need(length <= room, 26, length)
+    need(size <= room, 26, size)
 }
 
 // 27, 23, 24, 26: the first refusal of the writer, if any.
 fn judge(centres: &[u64], states: &[u64], requests: &[u64], room: usize) -> Check
-    ensures { λ r. ⌜ r ≡ refusalOf (now (centres .entry)) (now (states .entry)) (now (requests .entry)) room ⌝ }
+    ensures { λ r. ⌜ r ≡ writeCheck (now (centres .entry)) (now (states .entry)) (now (requests .entry)) room ⌝ }
 {
     let wholes = check_wholes(centres.len(), states.len(), requests.len());
     let Check::Sound = wholes else {
@@ -163,7 +164,7 @@ fn judge(centres: &[u64], states: &[u64], requests: &[u64], room: usize) -> Chec
     let Check::Sound = limits else {
         return limits;
     };
-    let needed = file_length(centres.len(), states.len(), requests.len());
+    let needed = file_size(centres.len(), states.len(), requests.len());
     first(
         check_numbers(centres, states, requests),
         check_room(needed, room),
@@ -173,7 +174,7 @@ fn judge(centres: &[u64], states: &[u64], requests: &[u64], room: usize) -> Chec
 // A section put at a place: its count, then its words.
 fn put_section(room: &mut [u8], place: usize, section: Section, run: &[u64])
     requires { ⌜ place + 8 * (1 + length (now run)) ≤ length (now room) ⌝ }
-    ensures { λ _. ⌜ now (room .exit) ≡ put (now (room .entry)) place (written (sectionWords section (now (run .entry)))) ⌝ }
+    ensures { λ _. ⌜ now (room .exit) ≡ put (now (room .entry)) place (asBytes (sectionWords section (now (run .entry)))) ⌝ }
 {
     put_word(room, place, records(section, run.len()) as u64);
     put_words(room, place + 8, run);
@@ -194,14 +195,15 @@ fn put_file(room: &mut [u8], centres: &[u64], states: &[u64], requests: &[u64])
 
 // The three sections written as an element file at the start of a room: its length, or the first refusal, and then nothing is written.
 pub fn write_file(centres: &[u64], states: &[u64], requests: &[u64], room: &mut [u8]) -> Writing
-    ensures { λ r. ⌜ (r ≡ writingOf (now (centres .entry)) (now (states .entry)) (now (requests .entry)) (now (room .entry))) × (now (room .exit) ≡ roomOf (now (centres .entry)) (now (states .entry)) (now (requests .entry)) (now (room .entry))) ⌝ }
+    ensures answer { λ r. ⌜ r ≡ writingOf (now (centres .entry)) (now (states .entry)) (now (requests .entry)) (now (room .entry)) ⌝ }
+    ensures room { λ _. ⌜ now (room .exit) ≡ roomOf (now (centres .entry)) (now (states .entry)) (now (requests .entry)) (now (room .entry)) ⌝ }
 {
     let verdict = judge(centres, states, requests, room.len());
     match verdict {
         Check::Fault { number, place } => Writing::Refused { number, place },
         Check::Sound => {
             put_file(room, centres, states, requests);
-            Writing::Length(file_length(centres.len(), states.len(), requests.len()))
+            Writing::Length(file_size(centres.len(), states.len(), requests.len()))
         }
     }
 }

@@ -5,7 +5,7 @@ use mathlib.Core.Path.{_≡_, refl, subst}
 use mathlib.Core.List.{List}
 use borrow.Author.Tests.{leb-true, eqb-true}
 use lib.ListN.{length}
-use Rattle.files_words.specs.Words.{wordAt}
+use Rattle.files_words.specs.Bytes.{wordAt}
 use Rattle.files_sections.specs.declared.sections.Section.the-variants.{Centres, States, Requests}
 use Rattle.files_sections.specs.declared.checks.Check.{Check}
 use Rattle.files_sections.specs.declared.checks.Check.the-variants.{Sound, Fault}

@@ -1,11 +1,11 @@
 -- Document 01: "The reader walks forward, answers either the three section places or a number with its byte place: 21 a needed word not whole, 22 edition, 23
 -- count above limit, 24 number not in its section, 25 bytes left after the last section. A section place is the byte of its count word, and the count comes
 -- with it. The place of a refusal is the first byte of the word at fault, for 25 the first byte left."
-use Prim.Native.Nat.{ℕ, zero, suc, _+_, _*_}
+use Prim.Native.Nat.{ℕ, zero, suc}
 use mathlib.Core.List.{List, [], _∷_}
 use lib.Dec.{leb, eqb}
 use lib.ListN.{length}
-use Rattle.files_words.specs.Words.{wordAt}
+use Rattle.files_words.specs.Bytes.{wordAt}
 use Rattle.files_sections.specs.declared.sections.Section.{Section}
 use Rattle.files_sections.specs.declared.sections.Section.the-variants.{Centres, States, Requests}
 use Rattle.files_sections.specs.declared.checks.Check.{Check}

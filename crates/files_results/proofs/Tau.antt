@@ -1,6 +1,6 @@
 -- Where the time or the epoch isn't finite, neither is τ.
 use Prim.Native.Nat.{ℕ}
-use mathlib.Core.Bool.{Bool, true, false, _&&_, true≢false}
+use mathlib.Core.Bool.{true, false, _&&_, true≢false}
 use mathlib.Core.Path.{_≡_, refl}
 use lib.Ieee.{Float, nan, inf, fin, binary64, sub, ofBits, toBits}
 use Rattle.bits.specs.Arithmetic.{_⊖_, isFinite}

@@ -5,7 +5,7 @@ use lib.Dec.{leb}
 use lib.Ieee.{binary64, ofBits, toBits}
 use Rattle.bits.specs.Choice.{pick}
 use Rattle.bits.specs.Arithmetic.{_⊖_}
-use Rattle.files_words.specs.Words.{wordAt}
+use Rattle.files_words.specs.Bytes.{wordAt}
 use Rattle.files_sections.specs.declared.sections.Section.the-variants.{Centres, States, Requests}
 use Rattle.files_sections.specs.Sections.{after, stateCentre, stateEpoch, statePosition, stateVelocity, requestState, requestTime}
 use Rattle.files_reader.specs.declared.Places.{Places}

@@ -7,7 +7,7 @@ use lib.Dec.{leb}
 use lib.ListN.{length, take}
 use Rattle.bits.specs.Choice.{pick}
 use Rattle.states.specs.Call.{answerWords, propagateOf}
-use Rattle.files_words.specs.Words.{written}
+use Rattle.files_words.specs.Bytes.{asBytes, put}
 use Rattle.files_sections.specs.declared.sections.Section.the-variants.{Requests}
 use Rattle.files_sections.specs.Sections.{limitOf}
 use Rattle.files_reader.specs.Reader.{readingOf}
@@ -65,11 +65,18 @@ resultBy file (reading.Sections places) = sectionsWords file places
 resultBy file (reading.Refused number place) = refusedFile number
 
 unfoldable pub resultFile : List ℕ → List ℕ
-resultFile file = written (resultBy file (readingOf file))
+resultFile file = asBytes (resultBy file (readingOf file))
 
 -- ---- What is answered: 0 and the file's size in bytes, or 26 and the size needed.
-unfoldable pub fits : (result room : List ℕ) → Outcome
-fits result room = record { number = pick (leb (length result) (length room)) 0 26; size = length result }
+unfoldable pub outcomeIn : (result room : List ℕ) → Outcome
+outcomeIn result room = record { number = pick (leb (length result) (length room)) 0 26; size = length result }
 
 abbrev pub outcomeOf : List ℕ → (room : List ℕ) → Outcome
-outcomeOf file room = fits (resultFile file) room
+outcomeOf file room = outcomeIn (resultFile file) room
+
+-- ---- What the code's inner steps leave in a room: row k at its place; the first n rows at theirs.
+abbrev pub withRow : List ℕ → Places → (k : ℕ) → (room : List ℕ) → List ℕ
+withRow file places k room = put room (rowPlace k) (asBytes (rowOf (requestWords file places k)))
+
+abbrev pub withRows : List ℕ → Places → (n : ℕ) → (room : List ℕ) → List ℕ
+withRows file places n room = put room (rowPlace 0) (asBytes (rowsOf file places n))

@@ -2,11 +2,10 @@
 ghost use mathlib.Core.Path.{_≡_};
 ghost use Prim.Native.Nat.{_<_, _≤_};
 ghost use lib.ListN.{length};
-ghost use Rattle.files_words.specs.Words.{written, put};
+ghost use Rattle.files_words.specs.Bytes.{asBytes, put};
 ghost use Rattle.files_sections.specs.declared.sections.Section.the-variants.{Requests};
 ghost use Rattle.files_sections.specs.Sections.{limitOf};
-ghost use Rattle.files_results.specs.Requests.{requestWords};
-ghost use Rattle.files_results.specs.Results.{Accepted, rowOf, rowPlace, rowsOf, sectionsWords, refusedFile, resultFile, fits, outcomeOf};
+ghost use Rattle.files_results.specs.Results.{Accepted, rowPlace, sectionsWords, refusedFile, resultFile, outcomeIn, outcomeOf, withRow, withRows};
 use files_reader::Places;
 use files_reader::Reading;
 use files_sections::MOST_REQUESTS;
@@ -44,7 +43,7 @@ fn row_place(k: usize) -> usize
 // The row of a request, put at its place.
 fn put_row(file: &[u8], places: Places, k: usize, room: &mut [u8])
     requires { ⌜ Accepted (now file) places × (k < places .requests .count) ⌝ }
-    ensures { λ _. ⌜ now (room .exit) ≡ put (now (room .entry)) (rowPlace k) (written (rowOf (requestWords (now (file .entry)) places k))) ⌝ }
+    ensures { λ _. ⌜ now (room .exit) ≡ withRow (now (file .entry)) places k (now (room .entry)) ⌝ }
 {
     let answer = states::call::propagate(requests::request_words(file, places, k));
     let words = states::answer::words_of(answer);
@@ -54,7 +53,7 @@ fn put_row(file: &[u8], places: Places, k: usize, room: &mut [u8])
 // The rows of all requests, one after another.
 fn put_rows(file: &[u8], places: Places, room: &mut [u8])
     requires { ⌜ Accepted (now file) places × (rowPlace (places .requests .count) ≤ length (now room)) ⌝ }
-    ensures { λ _. ⌜ now (room .exit) ≡ put (now (room .entry)) (rowPlace 0) (written (rowsOf (now (file .entry)) places (places .requests .count))) ⌝ }
+    ensures { λ _. ⌜ now (room .exit) ≡ withRows (now (file .entry)) places (places .requests .count) (now (room .entry)) ⌝ }
 {
     let n = places.requests.count;
     let mut left = n;
@@ -67,8 +66,8 @@ fn put_rows(file: &[u8], places: Places, room: &mut [u8])
 // The result file of an accepted file.
 fn write_accepted(file: &[u8], places: Places, room: &mut [u8]) -> Outcome
     requires { ⌜ Accepted (now file) places ⌝ }
-    ensures outcome { λ r. ⌜ r ≡ fits (written (sectionsWords (now (file .entry)) places)) (now (room .entry)) ⌝ }
-    ensures room { λ _. ⌜ now (room .exit) ≡ put (now (room .entry)) 0 (written (sectionsWords (now (file .entry)) places)) ⌝ }
+    ensures outcome { λ r. ⌜ r ≡ outcomeIn (asBytes (sectionsWords (now (file .entry)) places)) (now (room .entry)) ⌝ }
+    ensures room { λ _. ⌜ now (room .exit) ≡ put (now (room .entry)) 0 (asBytes (sectionsWords (now (file .entry)) places)) ⌝ }
 {
     let n = places.requests.count;
     let size = row_place(n);
@@ -82,8 +81,8 @@ fn write_accepted(file: &[u8], places: Places, room: &mut [u8]) -> Outcome
 
 // The three words of a file that is refused.
 fn write_refused(number: u64, room: &mut [u8]) -> Outcome
-    ensures outcome { λ r. ⌜ r ≡ fits (written (refusedFile number)) (now (room .entry)) ⌝ }
-    ensures room { λ _. ⌜ now (room .exit) ≡ put (now (room .entry)) 0 (written (refusedFile number)) ⌝ }
+    ensures outcome { λ r. ⌜ r ≡ outcomeIn (asBytes (refusedFile number)) (now (room .entry)) ⌝ }
+    ensures room { λ _. ⌜ now (room .exit) ≡ put (now (room .entry)) 0 (asBytes (refusedFile number)) ⌝ }
 {
     let size = 8 * REFUSED_WORDS;
     if room.len() < size {

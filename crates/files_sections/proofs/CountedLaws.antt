@@ -5,7 +5,7 @@ use mathlib.Core.Path.{_≡_}
 use mathlib.Core.List.{List, []}
 use borrow.Author.Tests.{leb-true}
 use lib.ListN.{length}
-use Rattle.files_words.specs.Words.{wordAt, wordsFrom}
+use Rattle.files_words.specs.Bytes.{wordAt, wordsFrom}
 use Rattle.files_words.proofs.WordLaws.{length-words-from}
 use Rattle.files_sections.specs.declared.checks.Check.the-variants.{Sound}
 use Rattle.files_sections.specs.Checks.{Ruling, walk, countCheck, countedCheck}

@@ -1,5 +1,5 @@
 -- Document 01, "Element file, edition 1": the three sections, what their records are and where they stand.
-use Prim.Native.Nat.{ℕ, zero, suc, _+_, _*_}
+use Prim.Native.Nat.{ℕ, _+_, _*_}
 use mathlib.Core.List.{List, [], _∷_}
 use Rattle.files_sections.specs.declared.sections.Section.{Section}
 use Rattle.files_sections.specs.declared.sections.Section.the-variants.{Centres, States, Requests}
@@ -8,8 +8,8 @@ use Rattle.files_sections.specs.declared.checks.Rule.{Rule}
 use Rattle.files_sections.specs.declared.checks.Rule.the-variants.{Any, Numbers}
 use Rattle.files_sections.specs.Checks.{countedCheck, rulingOf}
 
--- ---- "the edition, 1; then sections in a fixed order, each after its count: centres (0 to 16, one word: μ); states (0 to 500, eight words: centre number, epoch, x y z vx vy
--- vz); requests (0 to 1,500, two words: state number, time)."
+-- ---- "the edition, 1; then sections in a fixed order, each after its count: centres (0 to 16, one word: μ); states (0 to 500, eight words: centre number,
+-- epoch, x y z vx vy vz); requests (0 to 1,500, two words: state number, time)."
 
 abbrev pub elementEdition : ℕ
 elementEdition = 1

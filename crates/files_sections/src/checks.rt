@@ -2,7 +2,7 @@
 ghost use mathlib.Core.Path.{_≡_};
 ghost use mathlib.Core.List.{[]};
 ghost use Prim.Native.Nat.{_+_, _*_, _^_, _<_};
-ghost use Rattle.files_words.specs.Words.{wordsFrom};
+ghost use Rattle.files_words.specs.Bytes.{wordsFrom};
 ghost use Rattle.files_sections.specs.Checks.{need, _⟫_, walk, countCheck, countedCheck, numberFault, faultOf, rulingOf, wordFault};
 use files_words::is_whole;
 use files_words::word_at;

@@ -5,7 +5,7 @@ ghost use mathlib.Core.List.{[], _∷_};
 ghost use Rattle.bits.specs.Root.{rootRefusalOf, rootWordOf};
 ghost use Rattle.states.specs.Call.{answerWords, propagateOf};
 ghost use Rattle.states.specs.WithPartials.{partialsOf, lentOf};
-ghost use Rattle.files_words.specs.Words.{put};
+ghost use Rattle.files_words.specs.Bytes.{put};
 ghost use Rattle.files_reader.specs.Reader.{readingOf};
 ghost use Rattle.files.specs.Writer.{writingOf, roomOf};
 ghost use Rattle.files_results.specs.Results.{outcomeOf, resultFile};

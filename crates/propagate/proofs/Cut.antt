@@ -10,13 +10,13 @@ use borrow.Author.Tests.{leb-true, le-leb, lt-leb}
 use lib.Dec.{leb, eqb}
 use lib.ListN.{length, take, drop, length-append, length-drop}
 use lib.Seq.{take-append-le, drop-append-le}
-use Rattle.files_words.specs.Words.{number, wordAt, wordsFrom, written}
+use Rattle.files_words.specs.Bytes.{numberOf, wordAt, wordsFrom, asBytes}
 use Rattle.files_words.proofs.WordLaws.{word-whole, next-word}
 use Rattle.files_sections.specs.declared.sections.Section.{Section}
 use Rattle.files_sections.specs.declared.checks.Check.{Check}
 use Rattle.files_sections.specs.declared.checks.Check.the-variants.{Sound, Fault}
 use Rattle.files_sections.specs.Checks.{need, told, _⟫_, Ruling, walk, countCheck, countedCheck, rulingOf}
-use Rattle.files_sections.specs.Sections.{elementEdition, sections, widthOf, limitOf, ruleOf, sectionCheck, centresPlace, after}
+use Rattle.files_sections.specs.Sections.{elementEdition, sections, widthOf, limitOf, ruleOf, centresPlace, after}
 use Rattle.files_reader.specs.Reader.{editionCheck, endCheck, sectionsCheck, fileCheck, sectionsOf, readingBy, readingOf}
 use Rattle.files_reader.proofs.Accepted.{accepted-length}
 use Rattle.files_results.specs.Results.{resultBy, resultFile}
@@ -37,7 +37,7 @@ module _ (start rest : List ℕ) where
   same-word : (place : ℕ) → place + 8 ≤ length start → wordAt whole place ≡ wordAt start place
   same-word place h =
       word-whole whole place (omega (arith, longer))
-      ∙ ap number
+      ∙ ap numberOf
       (ap (take 8) (drop-append-le place start rest (omega arith))
       ∙ take-append-le 8 (drop place start) rest (omega (arith, length-drop place start)))
       ∙ sym (word-whole start place h)
@@ -113,4 +113,4 @@ module _ (start rest : List ℕ) where
 
     pub cut : resultFile whole ≡ resultFile start
     unfolding resultFile readingOf
-    cut = ap written (ap (λ (c : Check). resultBy whole (readingBy c (sectionsOf whole))) same-check ∙ told-by (fileCheck start) refl)
+    cut = ap asBytes (ap (λ (c : Check). resultBy whole (readingBy c (sectionsOf whole))) same-check ∙ told-by (fileCheck start) refl)

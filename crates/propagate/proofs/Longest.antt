@@ -7,8 +7,8 @@ use lib.ListN.{length, take, drop}
 use lib.Seq.{take-append-seam}
 use Rattle.io.specs.Counts.{Counts}
 use Rattle.io.proofs.Counting.{counts}
-use Rattle.files_words.specs.Words.{written, put}
-use Rattle.files_words.proofs.WordLaws.{length-written}
+use Rattle.files_words.specs.Bytes.{asBytes, put}
+use Rattle.files_words.proofs.WordLaws.{length-as-bytes}
 use Rattle.files_words.proofs.PutLaws.{put-fits, length-put}
 use Rattle.files_reader.specs.Reader.{readingOf}
 use Rattle.files_reader.specs.declared.Reading.{Reading}
@@ -17,9 +17,9 @@ use Rattle.files_reader.proofs.Accepted.{accepted-counts}
 use Rattle.files_results.specs.Results.{longestResult, refusedFile, resultBy, resultFile}
 use Rattle.files_results.proofs.Rows.{result-length}
 
-longest-by : (file : List ℕ) (reading : Reading) → readingOf file ≡ reading → length (written (resultBy file reading)) ≤ longestResult
+longest-by : (file : List ℕ) (reading : Reading) → readingOf file ≡ reading → length (asBytes (resultBy file reading)) ≤ longestResult
 longest-by file (Sections places) e = omega (arith, result-length file places, accepted-counts file places e)
-longest-by file (Refused number place) e = omega (arith, length-written (refusedFile number))
+longest-by file (Refused number place) e = omega (arith, length-as-bytes (refusedFile number))
 
 pub longest : (file : List ℕ) → length (resultFile file) ≤ 132016
 unfolding resultFile

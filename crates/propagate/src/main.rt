@@ -30,17 +30,17 @@ fn main() {
 // The file that the first argument names.
 fn propagate_named() {
     let mut path = io::buffer();
-    let length = os::arg(1, &mut path);
+    let size = os::arg(1, &mut path);
     if os::errno() != 0 {
         os::fail(b"the name of the file");
         return;
     }
-    let fd = os::open_read(&path[..length]);
+    let fd = os::open_read(&path[..size]);
     if fd < 0 {
-        os::fail(&path[..length]);
+        os::fail(&path[..size]);
         return;
     }
-    propagate(fd, &path[..length]);
+    propagate(fd, &path[..size]);
 }
 
 // The bytes that are read of a file: one more than the longest that can be accepted has.
@@ -69,8 +69,8 @@ fn propagate(fd: i32, name: &[u8]) {
 // Writes the result file of an element file to standard output.
 fn answer(file: &[u8]) {
     let mut room = [0u8; LONGEST_RESULT];
-    let length = results_of(file, &mut room);
-    if !streams::write_whole(STDOUT_FILENO, &room[..length]) {
+    let size = results_of(file, &mut room);
+    if !streams::write_whole(STDOUT_FILENO, &room[..size]) {
         os::fail(b"standard output");
     }
 }

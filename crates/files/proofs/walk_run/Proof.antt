@@ -1,5 +1,5 @@
 -- What the rest of the walk answers, from here, is what the whole walk answers from its start.
-use Prim.Native.Nat.{ℕ, _-_, _≤_}
+use Prim.Native.Nat.{_-_, _≤_}
 use native.Mathlib.Nat.{sub-self}
 use native.Mathlib.Omega.{arith}
 use mathlib.Core.Path.{_≡_, sym, _∙_}

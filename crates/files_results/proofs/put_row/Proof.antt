@@ -7,7 +7,7 @@ use borrow.Author.Needs.{needs}
 use lib.ListN.{length, take, length-take}
 use Rattle.states_arcs.specs.Results.{figuresOf}
 use Rattle.states.specs.Call.{answerWords, propagateOf}
-use Rattle.files_words.specs.Words.{written, put}
+use Rattle.files_words.specs.Bytes.{asBytes, put}
 use Rattle.files_reader.proofs.Accepted.{accepted-counts}
 use Rattle.files_results.specs.Results.{rowWords, rowOf}
 use Rattle.files_results.proofs.put_row.Statement.{statement}
@@ -49,7 +49,7 @@ returns c =
     let a = w .before .before .before .before .before .args in
     let words = w .words-of .ensures ∙ ap answerWords (w .before .propagate .ensures ∙ ap propagateOf (w .before .before .request-words .ensures)) in
     c .before .before .put-words .ensures
-    ∙ ap₂ (λ (p : ℕ) (words : List ℕ). put (a .room .now) p (written (take rowWords words))) (c .before .before .before .before .row-place .ensures) words
+    ∙ ap₂ (λ (p : ℕ) (words : List ℕ). put (a .room .now) p (asBytes (take rowWords words))) (c .before .before .before .before .row-place .ensures) words
 
 pub put-row-spec : {M : Type 1} → statement M
 put-row-spec =

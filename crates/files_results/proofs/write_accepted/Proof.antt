@@ -5,10 +5,10 @@ use mathlib.Core.List.{List}
 use native.Mathlib.Omega.{arith}
 use borrow.Author.Needs.{needs}
 use lib.ListN.{length}
-use Rattle.files_words.specs.Words.{written, put}
+use Rattle.files_words.specs.Bytes.{asBytes}
 use Rattle.files_results.proofs.Rows.{result-length, all-rows, too-short, long-enough}
 use Rattle.files_reader.proofs.Accepted.{accepted-counts}
-use Rattle.files_results.specs.Results.{rowPlace, rowsOf, sectionsWords}
+use Rattle.files_results.specs.Results.{rowPlace, sectionsWords, withRows}
 use Rattle.files_results.proofs.write_accepted.Statement.{statement}
 use Rattle.files_results.proofs.write_accepted.Tie as tie
 
@@ -18,13 +18,17 @@ row-place-requires c κs =
     omega (arith, accepted-counts (p .args .file .now) (p .args .places) (p .pre))
 
 -- the size that was worked out is the result file's
-sized : (c : tie.After-row-place) → length (written (sectionsWords (c .before .before .before .args .file .now) (c .before .before .before .args .places))) ≡ c .row-place .result
+sized : (c : tie.After-row-place) →
+    let a = c .before .before .before .args in
+    length (asBytes (sectionsWords (a .file .now) (a .places))) ≡ c .row-place .result
 sized c =
     let a = c .before .before .before .args in
     result-length (a .file .now) (a .places) ∙ sym (c .row-place .ensures)
 
 returns : tie.Need-returns
-returns c = too-short (written (sectionsWords (c .before .before .before .before .args .file .now) (c .before .before .before .before .args .places))) _ (sized (c .before)) (c .if1 .taken)
+returns c =
+    let a = c .before .before .before .before .args in
+    too-short (asBytes (sectionsWords (a .file .now) (a .places))) _ (sized (c .before)) (c .if1 .taken)
 
 slice-aggregate-put-words : tie.Need-slice-aggregate-put-words
 slice-aggregate-put-words c = search needs
@@ -44,9 +48,9 @@ returns-2 c =
     let a = p .before .before .before .before .args in
     let file = a .file .now in
     let long : rowPlace (a .places .requests .count) ≤ length (a .room .now) = omega (arith, p .if1 .left, p .before .row-place .ensures) in (
-      long-enough (written (sectionsWords file (a .places))) (a .room .now) (sized (p .before)) (p .if1 .left),
+      long-enough (asBytes (sectionsWords file (a .places))) (a .room .now) (sized (p .before)) (p .if1 .left),
       c .before .before .put-rows .ensures
-          ∙ ap (λ (room : List ℕ). put room (rowPlace 0) (written (rowsOf file (a .places) (a .places .requests .count)))) (c .before .before .before .before .before .before .put-words .ensures)
+          ∙ ap (withRows file (a .places) (a .places .requests .count)) (c .before .before .before .before .before .before .put-words .ensures)
           ∙ all-rows file (a .places) (a .room .now) long,
     )
 

@@ -3,10 +3,10 @@ use Prim.Native.Nat.{ℕ, _+_, _-_, _*_, _<_, _≤_}
 use native.Mathlib.Omega.{arith}
 use mathlib.Core.Path.{_≡_, ap, _∙_}
 use borrow.Author.Needs.{needs}
-use Rattle.files_sections.specs.Sections.{widthOf, after}
+use Rattle.files_sections.specs.Sections.{after}
 use Rattle.files_sections.proofs.RecordLaws.{width-bounds}
 use Rattle.files_results.specs.Requests.{upTo}
-use Rattle.files_results.proofs.Beyond.{not-beyond, beyond, fits, fits-not}
+use Rattle.files_results.proofs.Beyond.{not-beyond, beyond, record-fits, record-beyond}
 use Rattle.files_results.proofs.requests.record_at.Statement.{statement}
 use Rattle.files_results.proofs.requests.record_at.Tie as tie
 
@@ -53,7 +53,7 @@ returns-2 c =
     let a = w .before .args in
     let width = w .width .result in
     beyond (a .size + 8) (a .place + 8 + 8 * (a .i * width))
-    (omega (arith, fits-not (a .size - a .place) (a .i) width (bounds w .0) (c .if2 .taken)))
+    (omega (arith, record-beyond (a .size - a .place) (a .i) width (bounds w .0) (c .if2 .taken)))
     ∙ by-section w
 
 add-result-3 : tie.Need-add-result-3
@@ -65,7 +65,7 @@ few : (c : tie.Else2) →
 few c =
     let w = c .before .before in
     let a = w .before .args in
-    fits (a .size - a .place) (a .i) (w .width .result) (bounds w .0) (c .if2 .left)
+    record-fits (a .size - a .place) (a .i) (w .width .result) (bounds w .0) (c .if2 .left)
 
 mul-result : tie.Need-mul-result
 mul-result c = omega (arith, few c)

@@ -6,7 +6,7 @@ use mathlib.Core.List.{[]}
 use mathlib.Core.Path.{sym, ap, _∙_}
 use borrow.Author.Needs.{needs}
 use lib.ListN.{length}
-use Rattle.files_words.specs.Words.{wordsFrom}
+use Rattle.files_words.specs.Bytes.{wordsFrom}
 use Rattle.files_sections.specs.Checks.{walk, rulingOf, countedCheck}
 use Rattle.files_sections.proofs.CheckLaws.{stops, goes-on}
 use Rattle.files_sections.proofs.CountedLaws.{count-sound}

@@ -1,5 +1,4 @@
 -- By the rule.
-use mathlib.Core.Path.{sym, ap, _∙_}
 use borrow.Author.Needs.{needs}
 use Rattle.files_sections.proofs.checks.fault.Statement.{statement}
 use Rattle.files_sections.proofs.checks.fault.Tie as tie

@@ -1,9 +1,9 @@
 -- What the rest of the walk answers, from here, is what the whole walk answers from its start.
-use Prim.Native.Nat.{ℕ, _+_, _-_, _*_, _≤_}
+use Prim.Native.Nat.{_-_, _≤_}
 use native.Mathlib.Nat.{sub-self}
 use mathlib.Core.Path.{_≡_, sym, _∙_}
 use borrow.Author.Needs.{needs}
-use Rattle.files_words.specs.Words.{wordsFrom}
+use Rattle.files_words.specs.Bytes.{wordsFrom}
 use Rattle.files_sections.specs.Checks.{rulingOf}
 use Rattle.files_sections.proofs.WalkLaws.{from, from-start, walk-done, walk-on, walk-stops, tells-of-file}
 use Rattle.files_sections.proofs.checks.walk_words.Statement.{statement}

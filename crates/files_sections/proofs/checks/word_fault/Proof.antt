@@ -1,11 +1,9 @@
 -- By whether the word is whole.
-use Prim.Native.Nat.{ℕ, _+_}
 use mathlib.Core.Bool.{Bool}
 use mathlib.Core.Path.{sym, ap, _∙_}
 use borrow.Author.Needs.{needs}
-use lib.ListN.{length}
 use Rattle.bits.specs.Choice.{pick}
-use Rattle.files_words.specs.Words.{wordAt}
+use Rattle.files_words.specs.Bytes.{wordAt}
 use Rattle.files_sections.specs.Checks.{faultOf}
 use Rattle.files_sections.proofs.checks.word_fault.Statement.{statement}
 use Rattle.files_sections.proofs.checks.word_fault.Tie as tie

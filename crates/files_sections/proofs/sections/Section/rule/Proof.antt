@@ -1,10 +1,8 @@
 -- By the section, at its width.
-use mathlib.Core.Path.{sym, _∙_, ap}
-use Prim.Native.Nat.{ℕ}
+use mathlib.Core.Path.{_∙_, ap}
 use borrow.Author.Needs.{needs}
 use Rattle.files_sections.specs.declared.checks.Rule.the-variants.{Numbers}
 use Rattle.files_sections.specs.Sections.{widthOf}
-use Rattle.files_sections.specs.declared.sections.Section.{Section}
 use Rattle.files_sections.proofs.sections.Section.rule.Statement.{statement}
 use Rattle.files_sections.proofs.sections.Section.rule.Tie as tie
 

@@ -7,25 +7,25 @@ use lib.ListN.{length, take, drop}
 use Rattle.bits.specs.Choice.{pick}
 
 -- The number that bytes hold, the lowest first; and the n lowest bytes of a number.
-unfoldable pub number : List ℕ → ℕ
-number [] = 0
-number (b ∷ bs) = b + 256 * number bs
+unfoldable pub numberOf : List ℕ → ℕ
+numberOf [] = 0
+numberOf (b ∷ bs) = b + 256 * numberOf bs
 
 unfoldable pub bytesOf : ℕ → ℕ → List ℕ
 bytesOf zero w = []
 bytesOf (suc n) w = w % 256 ∷ bytesOf n (w / 256)
 
 -- A run of words as bytes.
-unfoldable pub written : List ℕ → List ℕ
+unfoldable pub asBytes : List ℕ → List ℕ
 unfolding bytesOf
-written [] = []
-written (w ∷ ws) = bytesOf 8 w ++ written ws
+asBytes [] = []
+asBytes (w ∷ ws) = bytesOf 8 w ++ asBytes ws
 
 -- The first n words of a run of bytes; and those that a file has from a place on, as many as are whole.
 unfoldable pub words : ℕ → List ℕ → List ℕ
-unfolding number
+unfolding numberOf
 words zero s = []
-words (suc n) s = number (take 8 s) ∷ words n (drop 8 s)
+words (suc n) s = numberOf (take 8 s) ∷ words n (drop 8 s)
 
 unfoldable pub wordsFrom : List ℕ → ℕ → List ℕ
 unfolding words
@@ -33,8 +33,8 @@ wordsFrom file place = words ((length file - place) / 8) (drop place file)
 
 -- The word at a place; 0 where it is not whole.
 unfoldable pub wordAt : List ℕ → ℕ → ℕ
-unfolding number
-wordAt file place = pick (leb (place + 8) (length file)) (number (take 8 (drop place file))) 0
+unfolding numberOf
+wordAt file place = pick (leb (place + 8) (length file)) (numberOf (take 8 (drop place file))) 0
 
 -- A room with bytes put at a place. All others keep their value; where there is no room for the bytes, all do.
 unfoldable pub put : List ℕ → ℕ → List ℕ → List ℕ
