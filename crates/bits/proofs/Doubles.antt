@@ -31,10 +31,11 @@ finite-no-nan nan h = absurd (true≢false (sym h))
 finite-no-nan (inf s) h = tt
 finite-no-nan (fin s m e) h = tt
 
+pub no-nan-word : (w : ℕ) → w % 2 ^ 63 ≤ infinity → T (not (nanBits binary64 w))
+no-nan-word w h = subst (λ (b : Bool). T (not b)) (sym (nanBits-above binary64 w ∙ le-ltb infinity (w % 2 ^ 63) h)) tt
+
 pub no-nan-bits : (w : ℕ) → fieldOf w ≤ 2046 → T (not (nanBits binary64 w))
-no-nan-bits w h =
-    let l : w % 2 ^ 63 ≤ infinity = omega arith in
-    subst (λ (b : Bool). T (not b)) (sym (nanBits-above binary64 w ∙ le-ltb infinity (w % 2 ^ 63) l)) tt
+no-nan-bits w h = no-nan-word w (omega arith)
 
 -- A field up to 2046 is a number's, with the sign s; 2047 is an infinity's or a NaN's.
 by-field : (s : Bool) (x t : ℕ) → x ≤ 2046 → HasValue (ofFields binary64 s x t) s (scaled x t) (2 ^ 1074)

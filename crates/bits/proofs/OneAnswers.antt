@@ -8,6 +8,8 @@ use Rattle.bits.proofs.words.figure_of.Kinds as figure-of-kinds
 use Rattle.bits.proofs.words.figure_of.Reads as figure-of-reads
 use Rattle.bits.proofs.words.is_finite_word.Kinds as is-finite-word-kinds
 use Rattle.bits.proofs.words.is_finite_word.Reads as is-finite-word-reads
+use Rattle.bits.proofs.words.double_of.Kinds as double-of-kinds
+use Rattle.bits.proofs.words.double_of.Reads as double-of-reads
 use Rattle.bits.proofs.words.is_finite.Kinds as is-finite-kinds
 use Rattle.bits.proofs.words.is_finite.Reads as is-finite-reads
 use Rattle.bits.proofs.words.word_of.Kinds as word-of-kinds
@@ -35,6 +37,9 @@ figure-of-one κs a x y v w p q = (p ∙ sym q, refl)
 
 pub is-finite-word-one : OneAnswer 0 is-finite-word-kinds.ps is-finite-word-kinds.r is-finite-word-reads.Post
 is-finite-word-one κs a x y v w p q = (p ∙ sym q, refl)
+
+pub double-of-one : OneAnswer 0 double-of-kinds.ps double-of-kinds.r double-of-reads.Post
+double-of-one κs a x y v w p q = (p ∙ sym q, refl)
 
 pub is-finite-one : OneAnswer 0 is-finite-kinds.ps is-finite-kinds.r is-finite-reads.Post
 is-finite-one κs a x y v w p q = (p ∙ sym q, refl)

@@ -8,6 +8,8 @@ ghost use Rattle.bits.specs.Words.{kindOf, figureOf, placeOf};
 pub const SIGN: u64 = 0x8000_0000_0000_0000;
 // The weight of the exponent field's lowest bit: one more than the largest number that the 52 digits hold.
 pub const FIELD: u64 = 0x0010_0000_0000_0000;
+// The word of plus infinity: with the sign bit taken off, only the words of NaNs are above it.
+pub const INFINITY: u64 = 0x7ff0_0000_0000_0000;
 
 // What the exponent field says of a double.
 pub enum Kind {
@@ -54,6 +56,16 @@ pub fn is_finite_word(word: u64) -> bool
         Kind::Normal => true,
         Kind::NotFinite => false,
     }
+}
+
+// The double of any word; every NaN is one value.
+pub fn double_of(word: u64) -> f64
+    ensures { λ r. ⌜ r ≡ ofBits binary64 word ⌝ }
+{
+    if word % SIGN > INFINITY {
+        return 0.0 / 0.0;
+    }
+    f64::from_bits(word)
 }
 
 // Whether a double is neither a NaN nor an infinity.

@@ -5,20 +5,21 @@ use mathlib.Core.Path.{_≡_, ap, ap₂, sym, _∙_}
 use mathlib.Core.List.{List, [], _∷_, _++_, append-assoc, append-nil}
 use borrow.Author.Tests.{le-leb, eq-eqb}
 use lib.ListN.{length, length-append}
-use Rattle.files_words.specs.Words.{wordAt, wordsFrom, written, Below}
-use Rattle.files_words.proofs.WordLaws.{next-word, no-word, whole-file, words-after, length-written, below-append}
-use Rattle.files_sections.specs.declared.Section.{Section}
-use Rattle.files_sections.specs.declared.Section.the-variants.{Centres, States, Requests}
-use Rattle.files_sections.specs.declared.Check.{Check}
-use Rattle.files_sections.specs.declared.Check.the-variants.{Sound}
-use Rattle.files_sections.specs.Sections.{widthOf, statesPlace, requestsPlace, endPlace}
+use Rattle.files_words.specs.Bytes.{wordAt, wordsFrom, asBytes, Below}
+use Rattle.files_words.proofs.WordLaws.{next-word, no-word, whole-file, words-after, length-as-bytes, below-append}
+use Rattle.files_sections.specs.declared.sections.Section.{Section}
+use Rattle.files_sections.specs.declared.sections.Section.the-variants.{Centres, States, Requests}
+use Rattle.files_sections.specs.declared.checks.Check.{Check}
+use Rattle.files_sections.specs.declared.checks.Check.the-variants.{Sound}
+use Rattle.files_sections.specs.Sections.{widthOf, sectionCheck, centresPlace, statesPlace, requestsPlace, endPlace}
+use Rattle.files_sections.specs.Checks.{_⟫_}
 use Rattle.files_sections.proofs.CheckLaws.{both, sound-both, sound-need}
 use Rattle.files_sections.proofs.RecordLaws.{limit-bound}
-use Rattle.files_reader.specs.Reader.{editionCheck, requestsCheck, statesCheck, centresCheck, fileCheck, sectionCheck}
-use Rattle.files_reader.proofs.Accepted.{edition-sound, centres-sound, states-sound, requests-sound, nothing-left}
-use Rattle.files.specs.Writer.{recordsIn, wholeCheck, wholeChecks, limitChecks, numberCheck, numberChecks, lengthOf, refusalOf, sectionWords, fileWords, fileOf}
+use Rattle.files_reader.specs.Reader.{editionCheck, endCheck, fileCheck}
+use Rattle.files_reader.proofs.Accepted.{edition-sound, centres-sound, states-sound, requests-sound, sound-length}
+use Rattle.files.specs.Writer.{recordsIn, wholeCheck, wholeChecks, limitChecks, numberCheck, numberChecks, sizeOf, writeCheck, sectionWords, fileWords, fileOf}
 use Rattle.files.proofs.WriteLaws.{fits, numbers-sound}
-use Rattle.files.proofs.SectionLaws.{Proper, records-of, no-rest, of-records, runAt, read-proper, read-words, read-end, found-count, found-sound, found-run}
+use Rattle.files.proofs.SectionLaws.{Proper, records-of, no-rest, of-records, runAt, read-proper, read-words, found-count, found-sound, found-run}
 
 -- Runs that are sound sections of these counts, each where it would stand.
 pub record ProperFile (C S R : List ℕ) (c s r : ℕ) : Type 0 where
@@ -68,19 +69,19 @@ module _ (C S R : List ℕ) (c s r : ℕ) (p : ProperFile C S R c s r) where
       (sound-both _ _ (ap (λ (k : ℕ). numberCheck States k (statesPlace k) S) ec ∙ p .second .numbers)
       (ap₂ (λ (k l : ℕ). numberCheck Requests l (requestsPlace k l) R) ec es ∙ p .third .numbers))
 
-  pub proper-length : lengthOf (length C) (length S) (length R) ≡ endPlace c s r
-  proper-length = omega (arith, ec, es, er)
+  pub proper-size : sizeOf (length C) (length S) (length R) ≡ endPlace c s r
+  proper-size = omega (arith, ec, es, er)
 
-  pub proper-accepted : (room : ℕ) → endPlace c s r ≤ room → refusalOf C S R room ≡ Sound
-  unfolding refusalOf
+  pub proper-accepted : (room : ℕ) → endPlace c s r ≤ room → writeCheck C S R room ≡ Sound
+  unfolding writeCheck
   proper-accepted room h =
-      let enough : lengthOf (length C) (length S) (length R) ≤ room = omega (arith, proper-length) in
+      let enough : sizeOf (length C) (length S) (length R) ≤ room = omega (arith, proper-size) in
       sound-both _ _ wholes
       (sound-both (limitChecks (recordsIn Centres (length C)) (recordsIn States (length S)) (recordsIn Requests (length R))) _
       (ap₂ (λ (f : ℕ → Check) (n : ℕ). f n) (ap₂ limitChecks ec es) er ∙ limits)
-      (sound-both (numberChecks C S R) _ numbers (sound-need _ 26 (lengthOf (length C) (length S) (length R)) (le-leb _ _ enough))))
+      (sound-both (numberChecks C S R) _ numbers (sound-need _ 26 (sizeOf (length C) (length S) (length R)) (le-leb _ _ enough))))
 
-pub accepted-proper : (C S R : List ℕ) (room : ℕ) → refusalOf C S R room ≡ Sound →
+pub accepted-proper : (C S R : List ℕ) (room : ℕ) → writeCheck C S R room ≡ Sound →
     ProperFile C S R (recordsIn Centres (length C)) (recordsIn States (length S)) (recordsIn Requests (length R))
 unfolding numberChecks
 accepted-proper C S R room sound =
@@ -122,14 +123,11 @@ module _ (file : List ℕ) (sound : fileCheck file ≡ Sound) where
         third = read-proper file (requestsPlace c s) Requests s (requests-sound file sound);
       }
 
-  pub read-length : length file ≡ endPlace c s r
-  read-length = omega (arith, nothing-left file sound, read-end file (requestsPlace c s) Requests s (requests-sound file sound))
-
   words-are : wordsFrom file 0 ≡ fileWords C S R
   unfolding fileWords
   words-are =
       let A : List ℕ = 1 ∷ [] in
-      let last : wordsFrom file (endPlace c s r) ≡ [] = no-word file (endPlace c s r) (omega (arith, read-length)) in
+      let last : wordsFrom file (endPlace c s r) ≡ [] = no-word file (endPlace c s r) (omega (arith, sound-length file sound)) in
       next-word file 0 (edition-sound file sound .0)
       ∙ ap₂ _∷_ (edition-sound file sound .1)
       (read-words file 8 Centres 0 (centres-sound file sound)
@@ -147,7 +145,7 @@ module _ (file : List ℕ) (sound : fileCheck file ≡ Sound) where
   unfolding fileOf
   read-bytes h =
       let n = 4 + c + 8 * s + 2 * r in
-      ap written (sym words-are) ∙ whole-file file n h (omega (arith, read-length))
+      ap asBytes (sym words-are) ∙ whole-file file n h (omega (arith, sound-length file sound))
 
 module _ (C S R : List ℕ) (c s r : ℕ) (p : ProperFile C S R c s r) (bc : Below (2 ^ 64) C) (bs : Below (2 ^ 64) S) (br : Below (2 ^ 64) R) where
   abbrev file : List ℕ
@@ -159,7 +157,7 @@ module _ (C S R : List ℕ) (c s r : ℕ) (p : ProperFile C S R c s r) (bc : Bel
       let A : List ℕ = 1 ∷ [] in
       let B = sectionWords Centres C in
       let D = sectionWords States S in
-      length-written (A ++ B ++ D ++ sectionWords Requests R)
+      length-as-bytes (A ++ B ++ D ++ sectionWords Requests R)
       ∙ ap (λ (n : ℕ). 8 * n) (length-append (A ++ B ++ D) (sectionWords Requests R))
       ∙ omega (arith, length-append (A ++ B) D, p .first .size, p .second .size, p .third .size)
 
@@ -167,7 +165,8 @@ module _ (C S R : List ℕ) (c s r : ℕ) (p : ProperFile C S R c s r) (bc : Bel
   unfolding fileOf fileWords
   at-requests =
       let pre : List ℕ = (1 ∷ []) ++ sectionWords Centres C ++ sectionWords States S in
-      let place : 8 * length pre ≡ requestsPlace c s = omega (arith, length-append ((1 ∷ []) ++ sectionWords Centres C) (sectionWords States S), p .first .size, p .second .size) in
+      let sum = length-append ((1 ∷ []) ++ sectionWords Centres C) (sectionWords States S) in
+      let place : 8 * length pre ≡ requestsPlace c s = omega (arith, sum, p .first .size, p .second .size) in
       ap (wordsFrom file) (sym place)
       ∙ words-after pre (sectionWords Requests R) (small Requests (p .third) br)
       ∙ part Requests (p .third) ∙ ap (λ (l : List ℕ). r ∷ l) (sym (append-nil R))
@@ -179,8 +178,8 @@ module _ (C S R : List ℕ) (c s r : ℕ) (p : ProperFile C S R c s r) (bc : Bel
       let D = sectionWords States S in
       let E = sectionWords Requests R in
       let place : 8 * length pre ≡ statesPlace c = omega (arith, p .first .size) in
-      ap (λ (ws : List ℕ). wordsFrom (written ws) (statesPlace c)) (append-assoc pre D E)
-      ∙ ap (wordsFrom (written (pre ++ (D ++ E)))) (sym place)
+      ap (λ (ws : List ℕ). wordsFrom (asBytes ws) (statesPlace c)) (append-assoc pre D E)
+      ∙ ap (wordsFrom (asBytes (pre ++ (D ++ E)))) (sym place)
       ∙ words-after pre (D ++ E) (below-append (2 ^ 64) D E (small States (p .second) bs) (small Requests (p .third) br))
       ∙ ap (λ (l : List ℕ). l ++ E) (part States (p .second))
 
@@ -202,14 +201,14 @@ module _ (C S R : List ℕ) (c s r : ℕ) (p : ProperFile C S R c s r) (bc : Bel
   at-centres : wordsFrom file 8 ≡ c ∷ (C ++ rest)
   unfolding fileOf
   at-centres =
-      ap (λ (ws : List ℕ). wordsFrom (written ws) 8) from-start
+      ap (λ (ws : List ℕ). wordsFrom (asBytes ws) 8) from-start
       ∙ words-after (1 ∷ []) (sectionWords Centres C ++ rest) below-from-centres
       ∙ ap (λ (l : List ℕ). l ++ rest) (part Centres (p .first))
 
   at-edition : wordsFrom file 0 ≡ 1 ∷ (sectionWords Centres C ++ rest)
   unfolding fileOf
   at-edition =
-      ap (λ (ws : List ℕ). wordsFrom (written ws) 0) from-start
+      ap (λ (ws : List ℕ). wordsFrom (asBytes ws) 0) from-start
       ∙ words-after [] (1 ∷ (sectionWords Centres C ++ rest)) (omega arith, below-from-centres)
 
   room-8 : (8 + 8 ≤ length file) × (statesPlace c + 8 ≤ length file) × (requestsPlace c s + 8 ≤ length file)
@@ -223,6 +222,14 @@ module _ (C S R : List ℕ) (c s r : ℕ) (p : ProperFile C S R c s r) (bc : Bel
 
   pub requests-count : wordAt file (requestsPlace c s) ≡ r
   requests-count = found-count file (requestsPlace c s) Requests s r R [] (room-8 .2) at-requests (p .third)
+
+  -- The counts, each found where the ones before it tell.
+  pub counts-are : (wordAt file 8 ≡ c)
+      × (wordAt file (statesPlace (wordAt file 8)) ≡ s)
+      × (wordAt file (requestsPlace (wordAt file 8) (wordAt file (statesPlace (wordAt file 8)))) ≡ r)
+  counts-are =
+      let fs = ap (λ (k : ℕ). wordAt file (statesPlace k)) centres-count ∙ states-count in
+      (centres-count, fs, ap₂ (λ (k l : ℕ). wordAt file (requestsPlace k l)) centres-count fs ∙ requests-count)
 
   pub centres-held : runAt file 8 Centres ≡ C
   centres-held = found-run file 8 Centres 0 c C rest (room-8 .0) at-centres (p .first)
@@ -241,28 +248,23 @@ module _ (C S R : List ℕ) (c s r : ℕ) (p : ProperFile C S R c s r) (bc : Bel
       let one : wordAt file 0 ≡ 1 = cc first in
       sound-both _ _ (sound-need _ 21 0 (le-leb _ _ whole)) (sound-need _ 22 0 (eq-eqb (wordAt file 0) 1 one))
 
-  from-requests : requestsCheck file c s ≡ Sound
-  unfolding requestsCheck
-  from-requests =
-      let end : length file ≤ endPlace c s (wordAt file (requestsPlace c s)) = omega (arith, file-length, requests-count) in
-      sound-both (sectionCheck file (requestsPlace c s) Requests s) _
-      (found-sound file (requestsPlace c s) Requests s r R [] (room-8 .2) at-requests (p .third))
-      (sound-need _ 25 (endPlace c s (wordAt file (requestsPlace c s))) (le-leb _ _ end))
-
-  from-states : statesCheck file c ≡ Sound
-  unfolding statesCheck
-  from-states =
-      sound-both (sectionCheck file (statesPlace c) States c) _
-      (found-sound file (statesPlace c) States c s S (sectionWords Requests R) (room-8 .1) at-states (p .second))
-      (ap (requestsCheck file c) states-count ∙ from-requests)
-
-  from-centres : centresCheck file ≡ Sound
-  unfolding centresCheck
-  from-centres =
-      sound-both (sectionCheck file 8 Centres 0) _
-      (found-sound file 8 Centres 0 c C rest (room-8 .0) at-centres (p .first))
-      (ap (statesCheck file) centres-count ∙ from-states)
-
   pub file-sound : fileCheck file ≡ Sound
-  unfolding fileCheck centresCheck statesCheck requestsCheck
-  file-sound = sound-both (editionCheck file) _ edition from-centres
+  unfolding fileCheck
+  file-sound =
+      let end : length file ≤ endPlace c s r = omega (arith, file-length) in
+      let checks : ℕ → ℕ → ℕ → Check =
+      λ c s r.
+      editionCheck file
+      ⟫ sectionCheck file centresPlace Centres 0
+      ⟫ sectionCheck file (statesPlace c) States c
+      ⟫ sectionCheck file (requestsPlace c s) Requests s
+      ⟫ endCheck file (endPlace c s r)
+      in
+      (λ i. checks (counts-are .0 i) (counts-are .1 i) (counts-are .2 i))
+      ∙ sound-both (editionCheck file) _ edition
+      (sound-both (sectionCheck file centresPlace Centres 0) _ (found-sound file 8 Centres 0 c C rest (room-8 .0) at-centres (p .first))
+      (sound-both (sectionCheck file (statesPlace c) States c) _
+      (found-sound file (statesPlace c) States c s S (sectionWords Requests R) (room-8 .1) at-states (p .second))
+      (sound-both (sectionCheck file (requestsPlace c s) Requests s) _
+      (found-sound file (requestsPlace c s) Requests s r R [] (room-8 .2) at-requests (p .third))
+      (sound-need _ 25 (endPlace c s r) (le-leb _ _ end)))))

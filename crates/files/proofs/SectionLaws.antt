@@ -1,47 +1,22 @@
 -- One section, of any width and under any rule: what is sound to the writer is sound to the reader, and the other way round.
-use Prim.Native.Nat.{ℕ, zero, suc, _+_, _*_, _%_, _<_, _≤_}
-use native.Mathlib.Nat.{add-zero, zero-add}
+use Prim.Native.Nat.{ℕ, _+_, _*_, _%_, _≤_}
 use native.Mathlib.Omega.{arith}
 use mathlib.Core.Path.{_≡_, refl, ap, ap₂, sym, _∙_}
 use mathlib.Core.List.{List, [], _∷_, _++_}
 use borrow.Author.Tests.{le-leb}
-use lib.ListN.{length, getD, take, drop, take-append-drop}
+use lib.ListN.{length, take, drop, take-append-drop}
 use lib.Seq.{length-take-le, take-at}
-use Rattle.files_words.specs.Words.{wordAt, wordsFrom}
-use Rattle.files_words.proofs.WordLaws.{next-word, word-of-words, words-later, length-words-from}
-use Rattle.files_sections.specs.declared.Section.{Section}
-use Rattle.files_sections.specs.declared.Section.the-variants.{Centres, States, Requests}
-use Rattle.files_sections.specs.declared.Check.{Check}
-use Rattle.files_sections.specs.declared.Check.the-variants.{Sound}
-use Rattle.files_sections.specs.Sections.{widthOf, limitOf, after, ruleOf, told, _⟫_, walk}
-use Rattle.files_sections.proofs.CheckLaws.{both, untold, fault-is-not-sound, sound-both, sound-need}
-use Rattle.files_reader.specs.Reader.{countCheck, sectionCheck}
-use Rattle.files_reader.proofs.Accepted.{count-whole, count-within, words-sound}
+use Rattle.files_words.specs.Bytes.{wordAt, wordsFrom}
+use Rattle.files_words.proofs.WordLaws.{next-word, words-later}
+use Rattle.files_sections.specs.declared.sections.Section.{Section}
+use Rattle.files_sections.specs.declared.sections.Section.the-variants.{Centres, States, Requests}
+use Rattle.files_sections.specs.declared.checks.Check.the-variants.{Sound}
+use Rattle.files_sections.specs.Checks.{Ruling, walk, countCheck, countedCheck, rulingOf}
+use Rattle.files_sections.specs.Sections.{widthOf, limitOf, ruleOf, sectionCheck, after}
+use Rattle.files_sections.proofs.CheckLaws.{sound-both, sound-need}
+use Rattle.files_sections.proofs.WalkLaws.{walk-front}
+use Rattle.files_sections.proofs.CountedLaws.{count-whole, count-within, words-sound, words-there}
 use Rattle.files.specs.Writer.{recordsIn, numberCheck, sectionWords}
-
--- ---- The walk looks at no more words than it needs, and a sound one had them all.
-
-pub walk-front : (rule : ℕ → ℕ → ℕ) (place j n : ℕ) (xs rest : List ℕ) → n ≤ length xs → walk rule place j n (xs ++ rest) ≡ walk rule place j n xs
-unfolding walk
-walk-front rule place j zero xs rest h = refl
-walk-front rule place j (suc n) [] rest h = absurd (omega arith)
-walk-front rule place j (suc n) (x ∷ xs) rest h = ap (λ (r : Check). told (rule j x) place ⟫ r) (walk-front rule (place + 8) (suc j) n xs rest (omega arith))
-
-pub walk-needs : (rule : ℕ → ℕ → ℕ) (place j n : ℕ) (ws : List ℕ) → walk rule place j n ws ≡ Sound → n ≤ length ws
-unfolding walk
-walk-needs rule place j zero ws e = omega arith
-walk-needs rule place j (suc n) [] e = fault-is-not-sound e
-walk-needs rule place j (suc n) (w ∷ ws) e = omega (arith, walk-needs rule (place + 8) (suc j) n ws (both (told (rule j w) place) _ e .1))
-
-pub walk-each : (rule : ℕ → ℕ → ℕ) (place j n : ℕ) (ws : List ℕ) → walk rule place j n ws ≡ Sound → (i : ℕ) → i < n → rule (j + i) (getD ws i 0) ≡ 0
-unfolding walk
-walk-each rule place j zero ws e i h = absurd (omega arith)
-walk-each rule place j (suc n) [] e i h = fault-is-not-sound e
-walk-each rule place j (suc n) (w ∷ ws) e zero h = ap (λ (k : ℕ). rule k w) (add-zero j) ∙ untold (rule j w) place (both (told (rule j w) place) _ e .0)
-walk-each rule place j (suc n) (w ∷ ws) e (suc i) h =
-    let k : j + suc i ≡ suc j + i = omega arith in
-    ap (λ (m : ℕ). rule m (getD ws i 0)) k
-    ∙ walk-each rule (place + 8) (suc j) n ws (both (told (rule j w) place) _ e .1) i (omega arith)
 
 -- ---- Whole records.
 
@@ -82,40 +57,31 @@ module _ (file : List ℕ) (place : ℕ) (section : Section) (below : ℕ) (soun
   abbrev run : List ℕ
   run = runAt file place section
 
-  enough : count * widthOf section ≤ length rest
-  enough = walk-needs (ruleOf section below) (place + 8) 0 (count * widthOf section) rest (words-sound file place section below sound)
+  abbrev ruling : Ruling
+  ruling = rulingOf (ruleOf section below)
 
   sized : length run ≡ count * widthOf section
-  sized = length-take-le (count * widthOf section) rest enough
+  sized = length-take-le (count * widthOf section) rest (words-there file place (limitOf section) (widthOf section) ruling sound)
 
   pub read-proper : Proper section below place count run
   read-proper =
       let n = count * widthOf section in
       record {
         size = sized;
-        few = count-within file place section below sound;
+        few = count-within file place (limitOf section) (widthOf section) ruling sound;
         numbers =
-            ap (λ (k : ℕ). walk (ruleOf section below) (place + 8) 0 k run) sized
-            ∙ sym (walk-front (ruleOf section below) (place + 8) 0 n run (drop n rest) (omega (arith, sized)))
-            ∙ ap (walk (ruleOf section below) (place + 8) 0 n) (take-append-drop n rest)
-            ∙ words-sound file place section below sound;
+            ap (λ (k : ℕ). walk ruling (place + 8) [] k run) sized
+            ∙ sym (walk-front ruling (place + 8) [] n run (drop n rest) (omega (arith, sized)))
+            ∙ ap (walk ruling (place + 8) [] n) (take-append-drop n rest)
+            ∙ words-sound file place (limitOf section) (widthOf section) ruling sound;
       }
 
   pub read-words : wordsFrom file place ≡ sectionWords section run ++ wordsFrom file (after section place count)
   read-words =
       let n = count * widthOf section in
       let told-count : count ≡ recordsIn section (length run) = sym (ap (recordsIn section) sized ∙ records-of section count) in
-      next-word file place (count-whole file place section below sound)
+      next-word file place (count-whole file place (limitOf section) (widthOf section) ruling sound)
       ∙ ap₂ _∷_ told-count (sym (take-append-drop n rest) ∙ ap (λ (ws : List ℕ). run ++ ws) (sym (words-later file (place + 8) n)))
-
-  pub read-each : (j : ℕ) → j < count * widthOf section → ruleOf section below j (wordAt file (place + 8 + 8 * j)) ≡ 0
-  read-each j h =
-      ap (ruleOf section below j) (sym (word-of-words file (place + 8) j))
-      ∙ ap (λ (k : ℕ). ruleOf section below k (getD rest j 0)) (sym (zero-add j))
-      ∙ walk-each (ruleOf section below) (place + 8) 0 (count * widthOf section) rest (words-sound file place section below sound) j h
-
-  pub read-end : after section place count ≤ length file
-  read-end = omega (arith, enough, length-words-from file (place + 8), count-whole file place section below sound)
 
 -- What the reader finds where a sound section stands.
 module _ (file : List ℕ) (place : ℕ) (section : Section) (below count : ℕ) (run rest : List ℕ)
@@ -130,21 +96,21 @@ module _ (file : List ℕ) (place : ℕ) (section : Section) (below count : ℕ)
     pub found-words : wordsFrom file (place + 8) ≡ run ++ rest
     found-words = cc opened
 
-    counted : countCheck file place section ≡ Sound
+    counted : countCheck file place (limitOf section) ≡ Sound
     unfolding countCheck
     counted =
         sound-both _ _ (sound-need _ 21 place (le-leb _ _ whole))
         (sound-need _ 23 place (le-leb (wordAt file place) (limitOf section) (omega (arith, found-count, proper .few))))
 
-    walked : walk (ruleOf section below) (place + 8) 0 (wordAt file place * widthOf section) (wordsFrom file (place + 8)) ≡ Sound
+    walked : walk (rulingOf (ruleOf section below)) (place + 8) [] (wordAt file place * widthOf section) (wordsFrom file (place + 8)) ≡ Sound
     walked =
-        ap₂ (λ (n : ℕ) (ws : List ℕ). walk (ruleOf section below) (place + 8) 0 n ws) (ap (λ (c : ℕ). c * widthOf section) found-count ∙ sym (proper .size)) found-words
-        ∙ walk-front (ruleOf section below) (place + 8) 0 (length run) run rest (omega arith)
+        ap₂ (walk (rulingOf (ruleOf section below)) (place + 8) []) (ap (λ (c : ℕ). c * widthOf section) found-count ∙ sym (proper .size)) found-words
+        ∙ walk-front (rulingOf (ruleOf section below)) (place + 8) [] (length run) run rest (omega arith)
         ∙ proper .numbers
 
     pub found-sound : sectionCheck file place section below ≡ Sound
-    unfolding sectionCheck
-    found-sound = sound-both (countCheck file place section) _ counted walked
+    unfolding countedCheck
+    found-sound = sound-both (countCheck file place (limitOf section)) _ counted walked
 
     pub found-run : runAt file place section ≡ run
     found-run =

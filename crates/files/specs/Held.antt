@@ -3,9 +3,9 @@ use Prim.Native.Nat.{ℕ, _+_, _*_, _^_}
 use mathlib.Core.Path.{_≡_}
 use mathlib.Core.List.{List, _++_}
 use lib.ListN.{length, take, drop}
-use Rattle.files_words.specs.Words.{wordsFrom, Below}
-use Rattle.files_sections.specs.declared.Section.{Section}
-use Rattle.files_sections.specs.declared.Section.the-variants.{Centres, States, Requests}
+use Rattle.files_words.specs.Bytes.{wordsFrom, Below}
+use Rattle.files_sections.specs.declared.sections.Section.{Section}
+use Rattle.files_sections.specs.declared.sections.Section.the-variants.{Centres, States, Requests}
 use Rattle.files_sections.specs.Sections.{widthOf}
 use Rattle.files_reader.specs.declared.Located.{Located}
 use Rattle.files_reader.specs.declared.Places.{Places}

@@ -6,12 +6,13 @@ use mathlib.Core.Path.{_≡_}
 use mathlib.Core.List.{List, [], _∷_, _++_}
 use lib.Dec.{leb, eqb}
 use lib.ListN.{length}
-use Rattle.files_words.specs.Words.{written, put}
-use Rattle.files_sections.specs.declared.Section.{Section}
-use Rattle.files_sections.specs.declared.Section.the-variants.{Centres, States, Requests}
-use Rattle.files_sections.specs.declared.Check.{Check}
-use Rattle.files_sections.specs.declared.Check.the-variants.{Sound, Fault}
-use Rattle.files_sections.specs.Sections.{widthOf, limitOf, statesPlace, requestsPlace, endPlace, ruleOf, need, _⟫_, walk}
+use Rattle.files_words.specs.Bytes.{asBytes, put}
+use Rattle.files_sections.specs.declared.sections.Section.{Section}
+use Rattle.files_sections.specs.declared.sections.Section.the-variants.{Centres, States, Requests}
+use Rattle.files_sections.specs.declared.checks.Check.{Check}
+use Rattle.files_sections.specs.declared.checks.Check.the-variants.{Sound, Fault}
+use Rattle.files_sections.specs.Checks.{need, _⟫_, walk, rulingOf}
+use Rattle.files_sections.specs.Sections.{elementEdition, widthOf, limitOf, ruleOf, centresPlace, statesPlace, requestsPlace, endPlace}
 use Rattle.files.specs.declared.Writing.{Writing}
 use Rattle.files.specs.declared.Writing.the-variants.{Length, Refused}
 
@@ -32,70 +33,70 @@ limitCheck section place count = need (leb count (limitOf section)) 23 place
 
 unfoldable pub limitChecks : ℕ → ℕ → ℕ → Check
 limitChecks centres states requests =
-    limitCheck Centres 8 centres
+    limitCheck Centres centresPlace centres
     ⟫ limitCheck States (statesPlace centres) states
     ⟫ limitCheck Requests (requestsPlace centres states) requests
 
 -- ---- 24: the walk of the reader, over the words that would follow each count word.
 abbrev pub numberCheck : Section → ℕ → ℕ → List ℕ → Check
-numberCheck section below place run = walk (ruleOf section below) (place + 8) 0 (length run) run
+numberCheck section below place run = walk (rulingOf (ruleOf section below)) (place + 8) [] (length run) run
 
 unfoldable pub numberChecks : List ℕ → List ℕ → List ℕ → Check
 unfolding walk
 numberChecks centres states requests =
     let c = recordsIn Centres (length centres) in
     let s = recordsIn States (length states) in
-    numberCheck Centres 0 8 centres
+    numberCheck Centres 0 centresPlace centres
     ⟫ numberCheck States c (statesPlace c) states
     ⟫ numberCheck Requests s (requestsPlace c s) requests
 
--- ---- 26, by the length that runs of so many words make.
-abbrev pub lengthOf : ℕ → ℕ → ℕ → ℕ
-lengthOf centres states requests = endPlace (recordsIn Centres centres) (recordsIn States states) (recordsIn Requests requests)
+-- ---- 26, by the bytes of the file that runs of so many words make.
+abbrev pub sizeOf : ℕ → ℕ → ℕ → ℕ
+sizeOf centres states requests = endPlace (recordsIn Centres centres) (recordsIn States states) (recordsIn Requests requests)
 
 abbrev pub roomCheck : ℕ → ℕ → Check
-roomCheck length room = need (leb length room) 26 length
+roomCheck size room = need (leb size room) 26 size
 
 -- ---- "refuses in this order: 27 .., 23, 24, 26".
-unfoldable pub refusalOf : List ℕ → List ℕ → List ℕ → ℕ → Check
+unfoldable pub writeCheck : List ℕ → List ℕ → List ℕ → ℕ → Check
 unfolding wholeChecks limitChecks numberChecks
-refusalOf centres states requests room =
+writeCheck centres states requests room =
     let c = length centres in
     let s = length states in
     let r = length requests in
     wholeChecks c s r
     ⟫ limitChecks (recordsIn Centres c) (recordsIn States s) (recordsIn Requests r)
     ⟫ numberChecks centres states requests
-    ⟫ roomCheck (lengthOf c s r) room
+    ⟫ roomCheck (sizeOf c s r) room
 
 -- ---- "the edition, 1; then sections in a fixed order, each after its count".
 abbrev pub sectionWords : Section → List ℕ → List ℕ
 sectionWords section run = recordsIn section (length run) ∷ run
 
 unfoldable pub fileWords : List ℕ → List ℕ → List ℕ → List ℕ
-fileWords centres states requests = (1 ∷ []) ++ sectionWords Centres centres ++ sectionWords States states ++ sectionWords Requests requests
+fileWords centres states requests = (elementEdition ∷ []) ++ sectionWords Centres centres ++ sectionWords States states ++ sectionWords Requests requests
 
 unfoldable pub fileOf : List ℕ → List ℕ → List ℕ → List ℕ
-unfolding written fileWords
-fileOf centres states requests = written (fileWords centres states requests)
+unfolding asBytes fileWords
+fileOf centres states requests = asBytes (fileWords centres states requests)
 
 -- ---- "Else it answers the length. Room beyond the file keeps its bytes." A refusal leaves the whole room as it was.
 abbrev pub writingBy : Check → ℕ → Writing
-writingBy Sound length = Length length
-writingBy (Fault number place) length = Refused number place
+writingBy Sound size = Length size
+writingBy (Fault number place) size = Refused number place
 
 abbrev pub roomBy : Check → List ℕ → List ℕ → List ℕ
 roomBy Sound room file = put room 0 file
 roomBy (Fault number place) room file = room
 
 unfoldable pub writingOf : List ℕ → List ℕ → List ℕ → List ℕ → Writing
-unfolding refusalOf
+unfolding writeCheck
 writingOf centres states requests room =
-    writingBy (refusalOf centres states requests (length room)) (lengthOf (length centres) (length states) (length requests))
+    writingBy (writeCheck centres states requests (length room)) (sizeOf (length centres) (length states) (length requests))
 
 unfoldable pub roomOf : List ℕ → List ℕ → List ℕ → List ℕ → List ℕ
-unfolding refusalOf fileOf put
-roomOf centres states requests room = roomBy (refusalOf centres states requests (length room)) room (fileOf centres states requests)
+unfolding writeCheck fileOf put
+roomOf centres states requests room = roomBy (writeCheck centres states requests (length room)) room (fileOf centres states requests)
 
 -- ---- What the writer's inner steps go by: runs of so many words are within the limits, and runs are whole records within them, with room for their file.
 pub record Within (centres states requests : ℕ) : Type 0 where
@@ -108,4 +109,4 @@ pub record Fits (centres states requests : List ℕ) (room : ℕ) : Type 0 where
   pub whole-states : length states % widthOf States ≡ 0
   pub whole-requests : length requests % widthOf Requests ≡ 0
   pub within : Within (length centres) (length states) (length requests)
-  pub roomy : lengthOf (length centres) (length states) (length requests) ≤ room
+  pub roomy : sizeOf (length centres) (length states) (length requests) ≤ room

@@ -1,4 +1,3 @@
--- Laws of the walk over a file, then what a sound check tells; `OneAnswers` has what the public function leaves open.
-pub mod FileWalk
+-- What an accepted file is; `OneAnswers` has what the public function leaves open.
 pub mod Accepted
 pub mod OneAnswers

@@ -9,7 +9,7 @@ use borrow.Author.Tests.{leb-true, leb-false, le-leb, lt-leb}
 use lib.Dec.{leb}
 use lib.ListN.{length}
 use Rattle.bits.specs.Choice.{pick}
-use Rattle.files_words.specs.Words.{wordAt}
+use Rattle.files_words.specs.Bytes.{wordAt}
 use Rattle.files_words.proofs.WordLaws.{word-missing}
 use Rattle.files_results.specs.Requests.{upTo}
 
@@ -43,8 +43,8 @@ same-word file place d = by (leb place (length file + 8)) refl
 
 -- Records of so many words: how many fit.
 module _ (space i width : ℕ) (some : 0 < width) where
-  pub fits : i ≤ space / (8 * width) → 8 * (i * width) ≤ space
-  fits h = omega (arith, le-div-iff-mul-le {k = 8 * width} {x = i} {y = space} (omega arith) .0 h)
+  pub record-fits : i ≤ space / (8 * width) → 8 * (i * width) ≤ space
+  record-fits h = omega (arith, le-div-iff-mul-le {k = 8 * width} {x = i} {y = space} (omega arith) .0 h)
 
-  pub fits-not : space / (8 * width) < i → space < 8 * (i * width)
-  fits-not h = omega (arith, div-lt-iff-lt-mul {k = 8 * width} {x = space} {y = i} (omega arith) .0 h)
+  pub record-beyond : space / (8 * width) < i → space < 8 * (i * width)
+  record-beyond h = omega (arith, div-lt-iff-lt-mul {k = 8 * width} {x = space} {y = i} (omega arith) .0 h)

@@ -1,4 +1,5 @@
--- Lemmas on places beyond a file's end, on rows and their places, and what each public function leaves open.
+-- Lemmas on places beyond a file's end, on τ, on rows and their places, and what each public function leaves open.
 pub mod Beyond
+pub mod Tau
 pub mod Rows
 pub mod OneAnswers

@@ -1,38 +1,28 @@
--- The counts of an accepted file are small; a result file is its rows, one after another.
-use mathlib.Core.Path.{_≡_, refl, sym, ap, _∙_, subst}
+-- A result file is its rows, one after another.
+use mathlib.Core.Bool.{Bool, true, false}
+use mathlib.Core.Path.{_≡_, refl, sym, ap, _∙_}
 use mathlib.Core.List.{List, [], _∷_}
 use Prim.Native.Nat.{ℕ, zero, suc, _*_, _<_, _≤_}
 use native.Mathlib.Omega.{arith}
 use borrow.Author.Tests.{le-leb, lt-leb}
+use lib.Dec.{leb}
 use lib.ListN.{length, length-append}
 use Rattle.states_arcs.specs.Results.{figuresOf}
 use Rattle.states.specs.Call.{answerWords}
-use Rattle.files_words.specs.Words.{written, put}
-use Rattle.files_words.proofs.WordLaws.{length-written, written-append}
+use Rattle.bits.specs.Choice.{pick}
+use Rattle.files_words.specs.Bytes.{asBytes, put}
+use Rattle.files_words.proofs.WordLaws.{length-as-bytes, as-bytes-append}
 use Rattle.files_words.proofs.PutLaws.{put-next, put-outside, length-put}
-use Rattle.files_reader.specs.Reader.{sectionsOf}
 use Rattle.files_reader.specs.declared.Places.{Places}
-use Rattle.files_reader.proofs.Accepted.{counts-within}
-use Rattle.files.proofs.Laws.{accepted-sound}
 use Rattle.files_results.specs.Requests.{requestWords}
-use Rattle.files_results.specs.Results.{Accepted, rowOf, rowsOf, rowPlace, sectionsWords, fits}
-
--- ---- Counts.
-abbrev pub Small : Places → Type 0
-Small p = (p .centres .count ≤ 16) × (p .states .count ≤ 500) × (p .requests .count ≤ 1500)
-
-pub small : (file : List ℕ) (places : Places) → Accepted file places → Small places
-unfolding sectionsOf
-small file places e =
-    let a = accepted-sound file places e in
-    subst Small (a .1) (counts-within file (a .0))
+use Rattle.files_results.specs.Results.{resultEdition, rowWords, rowPlace, rowOf, rowsOf, sectionsWords, outcomeIn, withRow, withRows}
 
 -- ---- Rows.
-pub row-length : (words : List ℕ) → length (rowOf words) ≡ 11
+pub row-length : (words : List ℕ) → length (rowOf words) ≡ rowWords
 unfolding rowOf answerWords figuresOf
 row-length words = refl
 
-pub rows-length : (file : List ℕ) (places : Places) (n : ℕ) → length (rowsOf file places n) ≡ 11 * n
+pub rows-length : (file : List ℕ) (places : Places) (n : ℕ) → length (rowsOf file places n) ≡ rowWords * n
 unfolding rowsOf
 rows-length file places zero = refl
 rows-length file places (suc n) =
@@ -40,45 +30,46 @@ rows-length file places (suc n) =
     ∙ (omega (arith, rows-length file places n, row-length (requestWords file places n)))
 
 module _ (file : List ℕ) (places : Places) where
-  rows-bytes : (n : ℕ) → length (written (rowsOf file places n)) ≡ 88 * n
-  rows-bytes n = length-written (rowsOf file places n) ∙ (omega (arith, rows-length file places n))
+  rows-bytes : (n : ℕ) → length (asBytes (rowsOf file places n)) ≡ 8 * (rowWords * n)
+  rows-bytes n = length-as-bytes (rowsOf file places n) ∙ (omega (arith, rows-length file places n))
 
-  pub row-after : (room : List ℕ) (k : ℕ) → rowPlace (suc k) ≤ length room
-      → put (put room 16 (written (rowsOf file places k))) (rowPlace k) (written (rowOf (requestWords file places k))) ≡ put room 16 (written (rowsOf file places (suc k)))
+  pub row-after : (room : List ℕ) (k : ℕ) → rowPlace (suc k) ≤ length room →
+      withRow file places k (withRows file places k room) ≡ withRows file places (suc k) room
   unfolding rowsOf
   row-after room k h =
-      let r = length-written (rowOf (requestWords file places k)) in
+      let r = length-as-bytes (rowOf (requestWords file places k)) in
       let l = row-length (requestWords file places k) in
-      put-next room (written (rowsOf file places k)) (written (rowOf (requestWords file places k))) 16 (rowPlace k)
+      put-next room (asBytes (rowsOf file places k)) (asBytes (rowOf (requestWords file places k))) (rowPlace 0) (rowPlace k)
       (omega (arith, rows-bytes k)) (omega (arith, rows-bytes k, r, l))
-      ∙ ap (put room 16) (sym (written-append (rowsOf file places k) (rowOf (requestWords file places k))))
+      ∙ ap (put room (rowPlace 0)) (sym (as-bytes-append (rowsOf file places k) (rowOf (requestWords file places k))))
 
-  pub result-length : length (written (sectionsWords file places)) ≡ rowPlace (places .requests .count)
-  result-length = length-written (sectionsWords file places) ∙ (omega (arith, rows-length file places (places .requests .count)))
+  pub result-length : length (asBytes (sectionsWords file places)) ≡ rowPlace (places .requests .count)
+  result-length = length-as-bytes (sectionsWords file places) ∙ (omega (arith, rows-length file places (places .requests .count)))
 
-  pub all-rows : (room : List ℕ) → rowPlace (places .requests .count) ≤ length room
-      → put (put room 0 (written (1 ∷ places .requests .count ∷ []))) 16 (written (rowsOf file places (places .requests .count))) ≡ put room 0 (written (sectionsWords file places))
+  pub all-rows : (room : List ℕ) → rowPlace (places .requests .count) ≤ length room →
+      withRows file places (places .requests .count) (put room 0 (asBytes (resultEdition ∷ places .requests .count ∷ [])))
+      ≡ put room 0 (asBytes (sectionsWords file places))
   all-rows room h =
       let n = places .requests .count in
-      let two = length-written (1 ∷ n ∷ []) in
-      put-next room (written (1 ∷ n ∷ [])) (written (rowsOf file places n)) 0 16 (omega (arith, two)) (omega (arith, two, rows-bytes n))
-      ∙ ap (put room 0) (sym (written-append (1 ∷ n ∷ []) (rowsOf file places n)))
+      let two = length-as-bytes (resultEdition ∷ n ∷ []) in
+      put-next room (asBytes (resultEdition ∷ n ∷ [])) (asBytes (rowsOf file places n)) 0 (rowPlace 0) (omega (arith, two)) (omega (arith, two, rows-bytes n))
+      ∙ ap (put room 0) (sym (as-bytes-append (resultEdition ∷ n ∷ []) (rowsOf file places n)))
 
-  pub room-length : (room : List ℕ) (k : ℕ) → rowPlace k ≤ length room → length (put room 16 (written (rowsOf file places k))) ≡ length room
-  room-length room k h = length-put room (written (rowsOf file places k)) 16 (omega (arith, rows-bytes k))
+  pub room-length : (room : List ℕ) (k : ℕ) → rowPlace k ≤ length room → length (withRows file places k room) ≡ length room
+  room-length room k h = length-put room (asBytes (rowsOf file places k)) (rowPlace 0) (omega (arith, rows-bytes k))
 
 -- ---- What is answered.
 module _ (result room : List ℕ) where
-  pub too-short : {n : ℕ} → length result ≡ n → length room < n → (record { number = 26; length = n } ≡ fits result room) × (room ≡ put room 0 result)
-  unfolding fits
-  too-short {n} e h =
-      let l : length room < length result = omega arith in (
-        ap (λ (k : ℕ). record { number = 26; length = k }) (sym e) ∙ ap (λ (t : ℕ). record { number = t; length = length result }) (sym (rw (lt-leb (length result) (length room) l))),
-        sym (put-outside room result 0 (omega arith)),
-      )
+  answered : {n : ℕ} (b : Bool) → length result ≡ n → leb (length result) (length room) ≡ b → record { number = pick b 0 26; size = n } ≡ outcomeIn result room
+  unfolding outcomeIn
+  answered b e t = λ i. record { number = pick (sym t i) 0 26; size = sym e i }
 
-  pub long-enough : {n : ℕ} → length result ≡ n → n ≤ length room → record { number = 0; length = n } ≡ fits result room
-  unfolding fits
+  pub too-short : {n : ℕ} → length result ≡ n → length room < n → (record { number = 26; size = n } ≡ outcomeIn result room) × (room ≡ put room 0 result)
+  too-short {n} e h =
+      let l : length room < length result = omega arith in
+      (answered false e (lt-leb (length result) (length room) l), sym (put-outside room result 0 (omega arith)))
+
+  pub long-enough : {n : ℕ} → length result ≡ n → n ≤ length room → record { number = 0; size = n } ≡ outcomeIn result room
   long-enough {n} e h =
       let l : length result ≤ length room = omega arith in
-      ap (λ (k : ℕ). record { number = 0; length = k }) (sym e) ∙ ap (λ (t : ℕ). record { number = t; length = length result }) (sym (rw (le-leb (length result) (length room) l)))
+      answered true e (le-leb (length result) (length room) l)

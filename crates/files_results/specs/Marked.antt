@@ -16,9 +16,9 @@ use Rattle.states_arcs.specs.Results.{factorsOf, endStateOf, arcOf, acceleratio
 use Rattle.states_start.specs.Given.{readOf}
 use Rattle.states_start.specs.Initial.{dot, begunOf, firstStepOf}
 use Rattle.states.specs.Call.{refused, answered, reachedBy, reachedFrom, reachedOrbit, reachedOf, endedAnswer, propagateOf, answerWords}
-use Rattle.files_words.specs.Words.{written}
+use Rattle.files_words.specs.Bytes.{asBytes}
 use Rattle.files_reader.specs.Reader.{readingOf}
-use Rattle.files_results.specs.Requests.{tauSince, tauWord, eightWords, requestWords}
+use Rattle.files_results.specs.Requests.{requestWords}
 use Rattle.files_results.specs.Results.{rowOf, rowsOf, resultFile}
 
 -- What a case asks for: the root of a word; the coefficients at L = +0, by α and ψ; a call of eight words; the result file of an element file. All are words.
@@ -37,7 +37,7 @@ abbrev pub given : Asked → List ℕ
 given (root word) = rootRefusalOf word ∷ rootWordOf word ∷ []
 given (coefficients alpha psi) = firstThree (coefficientsOf (ofBits binary64 alpha) (record { 0 = ofBits binary64 psi }))
 given (call words) = answerWords (propagateOf words)
-given (file words) = resultFile (written words)
+given (file words) = resultFile (asBytes words)
 
 -- A case: what is asked, and what it must give.
 pub record Case : Type 0 where
@@ -95,13 +95,13 @@ table =
     -- "P10 as one request writes, whole: 1, 1, 0, 21, the word of 1.0, 0, 0, 0, 0, 0, then three times 8000000000000000 hex (minus zero)."
     ∷ record {
       asked = file (1 ∷ 1 ∷ 0 ∷ 1 ∷ 0 ∷ 0 ∷ one ∷ 0 ∷ 0 ∷ 0 ∷ 0 ∷ 0 ∷ 1 ∷ 0 ∷ one ∷ []);
-      must = written (1 ∷ 1 ∷ 0 ∷ 21 ∷ one ∷ 0 ∷ 0 ∷ 0 ∷ 0 ∷ 0 ∷ minusZero ∷ minusZero ∷ minusZero ∷ []);
+      must = asBytes (1 ∷ 1 ∷ 0 ∷ 21 ∷ one ∷ 0 ∷ 0 ∷ 0 ∷ 0 ∷ 0 ∷ minusZero ∷ minusZero ∷ minusZero ∷ []);
     }
     -- "A refused file gives three words: 1, 0, its number." Here an empty one.
-    ∷ record { asked = file []; must = written (1 ∷ 0 ∷ 21 ∷ []) }
+    ∷ record { asked = file []; must = asBytes (1 ∷ 0 ∷ 21 ∷ []) }
     ∷ []
 
 -- Each case of the table gives what it must.
 pub marked : map (λ (c : Case). given (c .asked)) table ≡ map (λ (c : Case). c .must) table
-unfolding resultFile readingOf rowsOf rowOf requestWords eightWords tauWord tauSince propagateOf answerWords reachedOf reachedOrbit reachedFrom reachedBy endedAnswer answered refused readOf begunOf dot firstStepOf endedOf figuresOf resultsOf accelerationOf arcOf endStateOf factorsOf has firstOf searchOf history inward round halving outward onward counted trialAt evaluatedAt sortOf anomalyAt timeErrorOf radiusOf coefficientsOf sumsOf quotientsOf doublings atReduced c4Of c5Of nested reducedFrom beyondOne rootOf rootWordOf written add sub mul div neg lt eq ne ofBits toBits
+unfolding resultFile readingOf rowsOf rowOf requestWords propagateOf answerWords reachedOf reachedOrbit reachedFrom reachedBy endedAnswer answered refused readOf begunOf dot firstStepOf endedOf figuresOf resultsOf accelerationOf arcOf endStateOf factorsOf has firstOf searchOf history inward round halving outward onward counted trialAt evaluatedAt sortOf anomalyAt timeErrorOf radiusOf coefficientsOf sumsOf quotientsOf doublings atReduced c4Of c5Of nested reducedFrom beyondOne rootOf rootWordOf asBytes add sub mul div neg lt eq ne ofBits toBits
 marked = refl

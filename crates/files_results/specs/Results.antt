@@ -1,13 +1,15 @@
 -- Document 01: "The program writes edition 1, the request count, then per request 11 words: refusal or 0, points, position, velocity, end acceleration. A refused
 -- file gives three words: 1, 0, its number."
-use mathlib.Core.Path.{_≡_}
+use mathlib.Core.Path.{_≡_, refl}
 use mathlib.Core.List.{List, [], _∷_, _++_}
 use Prim.Native.Nat.{ℕ, zero, suc, _+_, _*_}
 use lib.Dec.{leb}
 use lib.ListN.{length, take}
 use Rattle.bits.specs.Choice.{pick}
 use Rattle.states.specs.Call.{answerWords, propagateOf}
-use Rattle.files_words.specs.Words.{written}
+use Rattle.files_words.specs.Bytes.{asBytes, put}
+use Rattle.files_sections.specs.declared.sections.Section.the-variants.{Requests}
+use Rattle.files_sections.specs.Sections.{limitOf}
 use Rattle.files_reader.specs.Reader.{readingOf}
 use Rattle.files_reader.specs.declared.Places.{Places}
 use Rattle.files_reader.specs.declared.Reading.{Reading}
@@ -19,32 +21,62 @@ use Rattle.files_results.specs.declared.Outcome.{Outcome}
 abbrev pub Accepted : List ℕ → Places → Type 0
 Accepted file places = readingOf file ≡ reading.Sections places
 
+-- ---- How a result file is laid out: its edition and the request count, then eleven words a request; or three words.
+abbrev pub resultEdition : ℕ
+resultEdition = 1
+
+abbrev pub headWords : ℕ
+headWords = 2
+
+abbrev pub rowWords : ℕ
+rowWords = 11
+
+abbrev pub refusedWords : ℕ
+refusedWords = 3
+
+-- Where row k stands; and how long a result file can be, by the most requests that an element file can have.
+abbrev pub rowPlace : ℕ → ℕ
+rowPlace k = 8 * (headWords + rowWords * k)
+
+abbrev pub longestResult : ℕ
+longestResult = rowPlace (limitOf Requests)
+
 -- ---- "per request 11 words: refusal or 0, points, position, velocity, end acceleration": the first eleven of an answer's.
 unfoldable pub rowOf : List ℕ → List ℕ
-rowOf words = take 11 (answerWords (propagateOf words))
+rowOf words = take rowWords (answerWords (propagateOf words))
 
--- The rows of the first n requests; and where row k stands.
+-- The rows of the first n requests.
 unfoldable pub rowsOf : List ℕ → Places → (n : ℕ) → List ℕ
 rowsOf file places zero = []
 rowsOf file places (suc n) = rowsOf file places n ++ rowOf (requestWords file places n)
 
-abbrev pub rowPlace : ℕ → ℕ
-rowPlace k = 16 + 88 * k
-
 -- ---- The whole file.
 abbrev pub sectionsWords : List ℕ → Places → List ℕ
-sectionsWords file places = 1 ∷ places .requests .count ∷ rowsOf file places (places .requests .count)
+sectionsWords file places = resultEdition ∷ places .requests .count ∷ rowsOf file places (places .requests .count)
+
+abbrev pub refusedFile : (number : ℕ) → List ℕ
+refusedFile number = resultEdition ∷ 0 ∷ number ∷ []
+
+refused-size : (number : ℕ) → length (refusedFile number) ≡ refusedWords
+refused-size number = refl
 
 abbrev pub resultBy : List ℕ → Reading → List ℕ
 resultBy file (reading.Sections places) = sectionsWords file places
-resultBy file (reading.Refused number place) = 1 ∷ 0 ∷ number ∷ []
+resultBy file (reading.Refused number place) = refusedFile number
 
 unfoldable pub resultFile : List ℕ → List ℕ
-resultFile file = written (resultBy file (readingOf file))
+resultFile file = asBytes (resultBy file (readingOf file))
 
--- ---- What is answered: 0 and the file's length, or 26 and the length needed.
-unfoldable pub fits : (result room : List ℕ) → Outcome
-fits result room = record { number = pick (leb (length result) (length room)) 0 26; length = length result }
+-- ---- What is answered: 0 and the file's size in bytes, or 26 and the size needed.
+unfoldable pub outcomeIn : (result room : List ℕ) → Outcome
+outcomeIn result room = record { number = pick (leb (length result) (length room)) 0 26; size = length result }
 
 abbrev pub outcomeOf : List ℕ → (room : List ℕ) → Outcome
-outcomeOf file room = fits (resultFile file) room
+outcomeOf file room = outcomeIn (resultFile file) room
+
+-- ---- What the code's inner steps leave in a room: row k at its place; the first n rows at theirs.
+abbrev pub withRow : List ℕ → Places → (k : ℕ) → (room : List ℕ) → List ℕ
+withRow file places k room = put room (rowPlace k) (asBytes (rowOf (requestWords file places k)))
+
+abbrev pub withRows : List ℕ → Places → (n : ℕ) → (room : List ℕ) → List ℕ
+withRows file places n room = put room (rowPlace 0) (asBytes (rowsOf file places n))

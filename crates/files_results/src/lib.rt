@@ -1,37 +1,59 @@
 // Layer 5: from an element file to its result file.
 ghost use mathlib.Core.Path.{_≡_};
-ghost use mathlib.Core.List.{[], _∷_};
 ghost use Prim.Native.Nat.{_<_, _≤_};
 ghost use lib.ListN.{length};
-ghost use Rattle.files_words.specs.Words.{written, put};
-ghost use Rattle.files_results.specs.Requests.{requestWords};
-ghost use Rattle.files_results.specs.Results.{Accepted, rowOf, rowPlace, rowsOf, sectionsWords, resultFile, fits, outcomeOf};
+ghost use Rattle.files_words.specs.Bytes.{asBytes, put};
+ghost use Rattle.files_sections.specs.declared.sections.Section.the-variants.{Requests};
+ghost use Rattle.files_sections.specs.Sections.{limitOf};
+ghost use Rattle.files_results.specs.Results.{Accepted, rowPlace, sectionsWords, refusedFile, resultFile, outcomeIn, outcomeOf, withRow, withRows};
 use files_reader::Places;
 use files_reader::Reading;
+use files_sections::MOST_REQUESTS;
 use files_words::put_words;
 
 pub mod requests;
 
-// What was written: 0 and the length of the result file, or 26 and the length that is needed.
+pub use requests::request_words;
+
+// The edition, a result file's first word.
+pub const RESULT_EDITION: u64 = 1;
+// The words before the first row: the edition and the request count.
+pub const HEAD_WORDS: usize = 2;
+// The words of a row.
+pub const ROW_WORDS: usize = 11;
+// The words that a refused file gives.
+pub const REFUSED_WORDS: usize = 3;
+// The bytes of the longest result file, that of the most requests.
+pub const LONGEST_RESULT: usize = 8 * (HEAD_WORDS + ROW_WORDS * MOST_REQUESTS as usize);
+
+// What was written: 0 and the size of the result file in bytes, or 26 and the size that is needed.
 pub struct Outcome {
     pub number: u64,
-    pub length: usize,
+    pub size: usize,
+}
+
+// Where row k stands, and how many bytes the rows before it and the head take.
+fn row_place(k: usize) -> usize
+    requires { ⌜ k ≤ limitOf Requests ⌝ }
+    ensures { λ r. ⌜ r ≡ rowPlace k ⌝ }
+{
+    8 * (HEAD_WORDS + ROW_WORDS * k)
 }
 
 // The row of a request, put at its place.
 fn put_row(file: &[u8], places: Places, k: usize, room: &mut [u8])
     requires { ⌜ Accepted (now file) places × (k < places .requests .count) ⌝ }
-    ensures { λ _. ⌜ now (room .exit) ≡ put (now (room .entry)) (rowPlace k) (written (rowOf (requestWords (now (file .entry)) places k))) ⌝ }
+    ensures { λ _. ⌜ now (room .exit) ≡ withRow (now (file .entry)) places k (now (room .entry)) ⌝ }
 {
     let answer = states::call::propagate(requests::request_words(file, places, k));
     let words = states::answer::words_of(answer);
-    put_words(room, 16 + 88 * k, &words[..11]);
+    put_words(room, row_place(k), &words[..ROW_WORDS]);
 }
 
 // The rows of all requests, one after another.
 fn put_rows(file: &[u8], places: Places, room: &mut [u8])
     requires { ⌜ Accepted (now file) places × (rowPlace (places .requests .count) ≤ length (now room)) ⌝ }
-    ensures { λ _. ⌜ now (room .exit) ≡ put (now (room .entry)) 16 (written (rowsOf (now (file .entry)) places (places .requests .count))) ⌝ }
+    ensures { λ _. ⌜ now (room .exit) ≡ withRows (now (file .entry)) places (places .requests .count) (now (room .entry)) ⌝ }
 {
     let n = places.requests.count;
     let mut left = n;
@@ -44,38 +66,36 @@ fn put_rows(file: &[u8], places: Places, room: &mut [u8])
 // The result file of an accepted file.
 fn write_accepted(file: &[u8], places: Places, room: &mut [u8]) -> Outcome
     requires { ⌜ Accepted (now file) places ⌝ }
-    ensures { λ r. ⌜ (r ≡ fits (written (sectionsWords (now (file .entry)) places)) (now (room .entry))) × (now (room .exit) ≡ put (now (room .entry)) 0 (written (sectionsWords (now (file .entry)) places))) ⌝ }
+    ensures outcome { λ r. ⌜ r ≡ outcomeIn (asBytes (sectionsWords (now (file .entry)) places)) (now (room .entry)) ⌝ }
+    ensures room { λ _. ⌜ now (room .exit) ≡ put (now (room .entry)) 0 (asBytes (sectionsWords (now (file .entry)) places)) ⌝ }
 {
     let n = places.requests.count;
-    let length = 16 + 88 * n;
-    if room.len() < length {
-        return Outcome { number: 26, length };
+    let size = row_place(n);
+    if room.len() < size {
+        return Outcome { number: 26, size };
     }
-    put_words(room, 0, &[1, n as u64]);
+    put_words(room, 0, &[RESULT_EDITION, n as u64]);
     put_rows(file, places, room);
-    Outcome { number: 0, length }
+    Outcome { number: 0, size }
 }
 
 // The three words of a file that is refused.
 fn write_refused(number: u64, room: &mut [u8]) -> Outcome
-    ensures { λ r. ⌜ (r ≡ fits (written (1 ∷ 0 ∷ number ∷ [])) (now (room .entry))) × (now (room .exit) ≡ put (now (room .entry)) 0 (written (1 ∷ 0 ∷ number ∷ []))) ⌝ }
+    ensures outcome { λ r. ⌜ r ≡ outcomeIn (asBytes (refusedFile number)) (now (room .entry)) ⌝ }
+    ensures room { λ _. ⌜ now (room .exit) ≡ put (now (room .entry)) 0 (asBytes (refusedFile number)) ⌝ }
 {
-    if room.len() < 24 {
-        return Outcome {
-            number: 26,
-            length: 24,
-        };
+    let size = 8 * REFUSED_WORDS;
+    if room.len() < size {
+        return Outcome { number: 26, size };
     }
-    put_words(room, 0, &[1, 0, number]);
-    Outcome {
-        number: 0,
-        length: 24,
-    }
+    put_words(room, 0, &[RESULT_EDITION, 0, number]);
+    Outcome { number: 0, size }
 }
 
 // The result file of an element file, to a room; where the room is too short, nothing is changed.
 pub fn write_results(file: &[u8], room: &mut [u8]) -> Outcome
-    ensures { λ r. ⌜ (r ≡ outcomeOf (now (file .entry)) (now (room .entry))) × (now (room .exit) ≡ put (now (room .entry)) 0 (resultFile (now (file .entry)))) ⌝ }
+    ensures outcome { λ r. ⌜ r ≡ outcomeOf (now (file .entry)) (now (room .entry)) ⌝ }
+    ensures room { λ _. ⌜ now (room .exit) ≡ put (now (room .entry)) 0 (resultFile (now (file .entry))) ⌝ }
 {
     match files_reader::read_file(file) {
         Reading::Sections(places) => write_accepted(file, places, room),

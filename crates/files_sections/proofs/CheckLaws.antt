@@ -1,11 +1,11 @@
 -- Checks one after another: the first fault stands, and nothing is wrong where each finds nothing.
-use Prim.Native.Nat.{ℕ, zero, suc}
+use Prim.Native.Nat.{ℕ}
 use native.Mathlib.Omega.{arith}
 use mathlib.Core.Path.{_≡_, refl, sym, ap, _∙_}
 use mathlib.Core.Bool.{Bool, true, false}
-use Rattle.files_sections.specs.declared.Check.{Check}
-use Rattle.files_sections.specs.declared.Check.the-variants.{Sound, Fault}
-use Rattle.files_sections.specs.Sections.{need, told, _⟫_}
+use Rattle.files_sections.specs.declared.checks.Check.{Check}
+use Rattle.files_sections.specs.declared.checks.Check.the-variants.{Sound, Fault}
+use Rattle.files_sections.specs.Checks.{need, _⟫_}
 
 pub fault-is-not-sound : {number place : ℕ} {A : Type 0} → Fault number place ≡ Sound → A
 fault-is-not-sound e = let z : _≡_ {A = ℕ} 0 1 = cc in absurd (omega arith)
@@ -34,7 +34,3 @@ sound-need holds number place e = ap (λ (b : Bool). need b number place) e
 pub needed : (holds : Bool) (number place : ℕ) → need holds number place ≡ Sound → holds ≡ true
 needed true number place e = refl
 needed false number place e = fault-is-not-sound e
-
-pub untold : (number place : ℕ) → told number place ≡ Sound → number ≡ 0
-untold zero place e = refl
-untold (suc n) place e = fault-is-not-sound e

@@ -7,8 +7,8 @@ use mathlib.Core.List.{List, [], _∷_, _++_, append-assoc, append-nil}
 use borrow.Author.Tests.{le-leb, lt-leb}
 use lib.ListN.{length, take, drop, set, length-append, length-drop, take-append-drop}
 use lib.Seq.{take-at, drop-append-add, drop-drop, length-take-le, set-split}
-use Rattle.files_words.specs.Words.{put, bytesOf, written}
-use Rattle.files_words.proofs.WordLaws.{length-bytes, length-written}
+use Rattle.files_words.specs.Bytes.{put, bytesOf, asBytes}
+use Rattle.files_words.proofs.WordLaws.{length-bytes, length-as-bytes}
 
 pub put-fits : (room bs : List ℕ) (place : ℕ) → place + length bs ≤ length room → put room place bs ≡ take place room ++ bs ++ drop (place + length bs) room
 unfolding put
@@ -68,8 +68,8 @@ lowest-stored room place left n w e h =
 
 -- a run's first word, and its others after it
 pub first-put : (room : List ℕ) (place w : ℕ) (ws : List ℕ) → place + 8 * suc (length ws) ≤ length room →
-    put room place (written (w ∷ ws)) ≡ put (put room place (bytesOf 8 w)) (place + 8) (written ws)
-unfolding written bytesOf
+    put room place (asBytes (w ∷ ws)) ≡ put (put room place (bytesOf 8 w)) (place + 8) (asBytes ws)
+unfolding asBytes bytesOf
 first-put room place w ws h =
-    let l : length (written ws) ≡ 8 * length ws = length-written ws in
-    sym (put-next room (bytesOf 8 w) (written ws) place (place + 8) refl (omega arith))
+    let l : length (asBytes ws) ≡ 8 * length ws = length-as-bytes ws in
+    sym (put-next room (bytesOf 8 w) (asBytes ws) place (place + 8) refl (omega arith))

@@ -9,7 +9,7 @@ use borrow.Author.Tests.{leb-true, leb-false, le-leb, lt-leb}
 use lib.Dec.{leb}
 use lib.ListN.{length, getD, take, drop, length-append, length-drop, take-append-drop}
 use lib.Seq.{take-at, drop-at, drop-cons, drop-drop, getD-drop, length-take-le}
-use Rattle.files_words.specs.Words.{number, bytesOf, written, words, wordsFrom, wordAt, Below}
+use Rattle.files_words.specs.Bytes.{numberOf, bytesOf, asBytes, words, wordsFrom, wordAt, Below}
 
 -- ---- Numbers and bytes.
 
@@ -18,17 +18,17 @@ unfolding bytesOf
 length-bytes zero w = refl
 length-bytes (suc n) w = ap suc (length-bytes n (w / 256))
 
-pub number-bytes : (n w : ℕ) → w < 256 ^ n → number (bytesOf n w) ≡ w
-unfolding number bytesOf
+pub number-bytes : (n w : ℕ) → w < 256 ^ n → numberOf (bytesOf n w) ≡ w
+unfolding numberOf bytesOf
 number-bytes zero w h = omega arith
 number-bytes (suc n) w h = omega (arith, number-bytes n (w / 256) (omega arith))
 
-pub bytes-number : (bs : List ℕ) → Below 256 bs → bytesOf (length bs) (number bs) ≡ bs
-unfolding number bytesOf
+pub bytes-number : (bs : List ℕ) → Below 256 bs → bytesOf (length bs) (numberOf bs) ≡ bs
+unfolding numberOf bytesOf
 bytes-number [] h = refl
 bytes-number (b ∷ bs) h =
-    let low : (b + 256 * number bs) % 256 ≡ b = omega (arith, h .0) in
-    let high : (b + 256 * number bs) / 256 ≡ number bs = omega (arith, h .0) in
+    let low : (b + 256 * numberOf bs) % 256 ≡ b = omega (arith, h .0) in
+    let high : (b + 256 * numberOf bs) / 256 ≡ numberOf bs = omega (arith, h .0) in
     ap₂ _∷_ low (ap (bytesOf (length bs)) high ∙ bytes-number bs (h .1))
 
 -- ---- Runs of words and runs of bytes.
@@ -47,42 +47,42 @@ below-drop n zero xs p = p
 below-drop n (suc k) [] p = tt
 below-drop n (suc k) (x ∷ xs) p = below-drop n k xs (p .1)
 
-pub length-written : (ws : List ℕ) → length (written ws) ≡ 8 * length ws
-unfolding written
-length-written [] = refl
-length-written (w ∷ ws) = length-append (bytesOf 8 w) (written ws) ∙ omega (arith, length-bytes 8 w, length-written ws)
+pub length-as-bytes : (ws : List ℕ) → length (asBytes ws) ≡ 8 * length ws
+unfolding asBytes
+length-as-bytes [] = refl
+length-as-bytes (w ∷ ws) = length-append (bytesOf 8 w) (asBytes ws) ∙ omega (arith, length-bytes 8 w, length-as-bytes ws)
 
-pub written-append : (xs ys : List ℕ) → written (xs ++ ys) ≡ written xs ++ written ys
-unfolding written
-written-append [] ys = refl
-written-append (x ∷ xs) ys = ap (λ (l : List ℕ). bytesOf 8 x ++ l) (written-append xs ys) ∙ sym (append-assoc (bytesOf 8 x) (written xs) (written ys))
+pub as-bytes-append : (xs ys : List ℕ) → asBytes (xs ++ ys) ≡ asBytes xs ++ asBytes ys
+unfolding asBytes
+as-bytes-append [] ys = refl
+as-bytes-append (x ∷ xs) ys = ap (λ (l : List ℕ). bytesOf 8 x ++ l) (as-bytes-append xs ys) ∙ sym (append-assoc (bytesOf 8 x) (asBytes xs) (asBytes ys))
 
-pub words-written : (ws rest : List ℕ) → Below (2 ^ 64) ws → words (length ws) (written ws ++ rest) ≡ ws
-unfolding words written
-words-written [] rest h = refl
-words-written (w ∷ ws) rest h =
-    let split : written (w ∷ ws) ++ rest ≡ bytesOf 8 w ++ (written ws ++ rest) = append-assoc (bytesOf 8 w) (written ws) rest in
+pub words-as-bytes : (ws rest : List ℕ) → Below (2 ^ 64) ws → words (length ws) (asBytes ws ++ rest) ≡ ws
+unfolding words asBytes
+words-as-bytes [] rest h = refl
+words-as-bytes (w ∷ ws) rest h =
+    let split : asBytes (w ∷ ws) ++ rest ≡ bytesOf 8 w ++ (asBytes ws ++ rest) = append-assoc (bytesOf 8 w) (asBytes ws) rest in
     ap₂ _∷_
-    (ap (λ (s : List ℕ). number (take 8 s)) split ∙ ap number (take-at (bytesOf 8 w) (written ws ++ rest) 8 (length-bytes 8 w)) ∙ number-bytes 8 w (h .0))
+    (ap (λ (s : List ℕ). numberOf (take 8 s)) split ∙ ap numberOf (take-at (bytesOf 8 w) (asBytes ws ++ rest) 8 (length-bytes 8 w)) ∙ number-bytes 8 w (h .0))
     (ap (λ (s : List ℕ). words (length ws) (drop 8 s)) split
-    ∙ ap (words (length ws)) (drop-at (bytesOf 8 w) (written ws ++ rest) 8 (length-bytes 8 w))
-    ∙ words-written ws rest (h .1))
+    ∙ ap (words (length ws)) (drop-at (bytesOf 8 w) (asBytes ws ++ rest) 8 (length-bytes 8 w))
+    ∙ words-as-bytes ws rest (h .1))
 
-pub written-words : (n : ℕ) (s : List ℕ) → Below 256 s → length s ≡ 8 * n → written (words n s) ≡ s
-unfolding words written
-written-words zero [] h e = refl
-written-words zero (b ∷ s) h e = absurd (omega arith)
-written-words (suc n) s h e =
+pub as-bytes-words : (n : ℕ) (s : List ℕ) → Below 256 s → length s ≡ 8 * n → asBytes (words n s) ≡ s
+unfolding words asBytes
+as-bytes-words zero [] h e = refl
+as-bytes-words zero (b ∷ s) h e = absurd (omega arith)
+as-bytes-words (suc n) s h e =
     let whole : length (take 8 s) ≡ 8 = length-take-le 8 s (omega arith) in
     ap₂ _++_
-    (ap (λ (k : ℕ). bytesOf k (number (take 8 s))) (sym whole) ∙ bytes-number (take 8 s) (below-take 256 8 s h))
-    (written-words n (drop 8 s) (below-drop 256 8 s h) (length-drop 8 s ∙ omega arith))
+    (ap (λ (k : ℕ). bytesOf k (numberOf (take 8 s))) (sym whole) ∙ bytes-number (take 8 s) (below-take 256 8 s h))
+    (as-bytes-words n (drop 8 s) (below-drop 256 8 s h) (length-drop 8 s ∙ omega arith))
     ∙ take-append-drop 8 s
 
 -- ---- The words of a file from a place on, and the word at a place.
 
 module _ (file : List ℕ) (place : ℕ) where
-  pub word-whole : place + 8 ≤ length file → wordAt file place ≡ number (take 8 (drop place file))
+  pub word-whole : place + 8 ≤ length file → wordAt file place ≡ numberOf (take 8 (drop place file))
   unfolding wordAt
   word-whole h = simp (le-leb _ _ h)
 
@@ -109,8 +109,8 @@ pub below-of : (n : ℕ) (s : List ℕ) → ((i : ℕ) → getD s i 0 < n) → B
 below-of n [] h = tt
 below-of n (x ∷ s) h = (h 0, below-of n s (λ i. h (suc i)))
 
-pub number-bound : (m n : ℕ) (s : List ℕ) → Below 256 s → n ≤ m → number (take n s) < 256 ^ m
-unfolding number
+pub number-bound : (m n : ℕ) (s : List ℕ) → Below 256 s → n ≤ m → numberOf (take n s) < 256 ^ m
+unfolding numberOf
 number-bound zero zero s h p = omega arith
 number-bound zero (suc n) s h p = absurd (omega arith)
 number-bound (suc m) zero s h p = omega (arith, number-bound m zero s h (omega arith))
@@ -118,8 +118,8 @@ number-bound (suc m) (suc n) [] h p = omega (arith, number-bound m zero [] h (om
 number-bound (suc m) (suc n) (x ∷ s) h p = omega (arith, number-bound m n s (h .1) (omega arith), h .0)
 
 pub lower-byte : (s : List ℕ) (place n : ℕ) → place < length s →
-    number (take (suc n) (drop place s)) ≡ getD s place 0 + 256 * number (take n (drop (suc place) s))
-unfolding number
+    numberOf (take (suc n) (drop place s)) ≡ getD s place 0 + 256 * numberOf (take n (drop (suc place) s))
+unfolding numberOf
 lower-byte s place n h = rw (drop-cons s place 0) refl
 
 -- ---- The words of a file, all of them: how many there are, those further on, and each by its place.
@@ -167,19 +167,19 @@ words-below zero s h = tt
 words-below (suc n) s h = (number-bound 8 8 s h (omega arith), words-below n (drop 8 s) (below-drop 256 8 s h))
 
 -- Words written after others read back from where they stand.
-pub words-after : (pre post : List ℕ) → Below (2 ^ 64) post → wordsFrom (written (pre ++ post)) (8 * length pre) ≡ post
+pub words-after : (pre post : List ℕ) → Below (2 ^ 64) post → wordsFrom (asBytes (pre ++ post)) (8 * length pre) ≡ post
 unfolding wordsFrom
 words-after pre post h =
-    let file = written (pre ++ post) in
-    let split : file ≡ written pre ++ written post = written-append pre post in
-    let front : length (written pre) ≡ 8 * length pre = length-written pre in
-    let many : (length file - 8 * length pre) / 8 ≡ length post = omega (arith, length-written (pre ++ post), length-append pre post) in
-    ap₂ words many (ap (drop (8 * length pre)) split ∙ drop-at (written pre) (written post) (8 * length pre) front ∙ sym (append-nil (written post)))
-    ∙ words-written post [] h
+    let file = asBytes (pre ++ post) in
+    let split : file ≡ asBytes pre ++ asBytes post = as-bytes-append pre post in
+    let front : length (asBytes pre) ≡ 8 * length pre = length-as-bytes pre in
+    let many : (length file - 8 * length pre) / 8 ≡ length post = omega (arith, length-as-bytes (pre ++ post), length-append pre post) in
+    ap₂ words many (ap (drop (8 * length pre)) split ∙ drop-at (asBytes pre) (asBytes post) (8 * length pre) front ∙ sym (append-nil (asBytes post)))
+    ∙ words-as-bytes post [] h
 
 -- A file of whole words is its words.
-pub whole-file : (file : List ℕ) (n : ℕ) → Below 256 file → length file ≡ 8 * n → written (wordsFrom file 0) ≡ file
+pub whole-file : (file : List ℕ) (n : ℕ) → Below 256 file → length file ≡ 8 * n → asBytes (wordsFrom file 0) ≡ file
 unfolding wordsFrom
 whole-file file n h e =
     let many : (length file - 0) / 8 ≡ n = omega arith in
-    ap (λ (k : ℕ). written (words k file)) many ∙ written-words n file h e
+    ap (λ (k : ℕ). asBytes (words k file)) many ∙ as-bytes-words n file h e

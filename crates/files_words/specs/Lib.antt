@@ -1,2 +1,2 @@
 -- Little-endian words in runs of bytes.
-pub mod Words
+pub mod Bytes

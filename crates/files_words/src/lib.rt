@@ -3,7 +3,7 @@ ghost use mathlib.Core.Path.{_≡_};
 ghost use Prim.Native.Nat.{_+_, _*_, _<_, _≤_};
 ghost use lib.Dec.{leb};
 ghost use lib.ListN.{length, take, drop};
-ghost use Rattle.files_words.specs.Words.{number, bytesOf, written, wordAt, put};
+ghost use Rattle.files_words.specs.Bytes.{numberOf, bytesOf, asBytes, wordAt, put};
 
 // A byte as a word.
 fn wide(x: u8) -> u64
@@ -25,7 +25,7 @@ pub fn is_whole(file: &[u8], place: usize) -> bool
 // The word at a place where it is whole, from its highest byte down.
 fn whole_word(file: &[u8], place: usize) -> u64
     requires { ⌜ place + 8 ≤ length (now file) ⌝ }
-    ensures { λ r. ⌜ r ≡ number (take 8 (drop place (now (file .entry)))) ⌝ }
+    ensures { λ r. ⌜ r ≡ numberOf (take 8 (drop place (now (file .entry)))) ⌝ }
 {
     let mut word: u64 = 0;
     let mut left: usize = 8;
@@ -72,7 +72,7 @@ pub fn put_word(room: &mut [u8], place: usize, word: u64)
 // The words of a run put one after another from a place on where there is room for them.
 fn put_each(room: &mut [u8], place: usize, run: &[u64])
     requires { ⌜ place + 8 * length (now run) ≤ length (now room) ⌝ }
-    ensures { λ _. ⌜ now (room .exit) ≡ put (now (room .entry)) place (written (now (run .entry))) ⌝ }
+    ensures { λ _. ⌜ now (room .exit) ≡ put (now (room .entry)) place (asBytes (now (run .entry))) ⌝ }
 {
     let n = run.len();
     let mut left = n;
@@ -85,7 +85,7 @@ fn put_each(room: &mut [u8], place: usize, run: &[u64])
 
 // A run of words put at a place; where there is no room for all of them, nothing is changed.
 pub fn put_words(room: &mut [u8], place: usize, run: &[u64])
-    ensures { λ _. ⌜ now (room .exit) ≡ put (now (room .entry)) place (written (now (run .entry))) ⌝ }
+    ensures { λ _. ⌜ now (room .exit) ≡ put (now (room .entry)) place (asBytes (now (run .entry))) ⌝ }
 {
     let space = room.len();
     if space < place {

@@ -45,7 +45,7 @@ writingWords (writing.Refused number place) = number ∷ place ∷ []
 
 -- The results' answer: number, then the length written or needed.
 abbrev pub outcomeWords : Outcome → List ℕ
-outcomeWords o = o .number ∷ o .length ∷ []
+outcomeWords o = o .number ∷ o .size ∷ []
 
 -- The number of an answer is its first word.
 abbrev pub numberIn : List ℕ → ℕ

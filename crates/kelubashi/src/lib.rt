@@ -5,7 +5,7 @@ ghost use mathlib.Core.List.{[], _∷_};
 ghost use Rattle.bits.specs.Root.{rootRefusalOf, rootWordOf};
 ghost use Rattle.states.specs.Call.{answerWords, propagateOf};
 ghost use Rattle.states.specs.WithPartials.{partialsOf, lentOf};
-ghost use Rattle.files_words.specs.Words.{put};
+ghost use Rattle.files_words.specs.Bytes.{put};
 ghost use Rattle.files_results.specs.Results.{outcomeOf, resultFile};
 ghost use Rattle.kelubashi.specs.Face.{returned, answerAfter, orbitWords, lentBehind, readWords, resultsWords, numberIn, writeNumber, writeAnswer, writeRoom};
 
@@ -123,6 +123,6 @@ pub extern "C" fn kelubashi1_results(file: &[u8], room: &mut [u8], answer: &mut 
         return 60;
     }
     let outcome = files_results::write_results(file, room);
-    bits::copy_words(&[outcome.number, outcome.length as u64], answer);
+    bits::copy_words(&[outcome.number, outcome.size as u64], answer);
     outcome.number
 }

@@ -1,24 +1,25 @@
--- How long a result file can be: 16 bytes, and 88 for each of 1,500 requests. So a room of that length takes every one.
+-- No result file is longer than the longest: that of 1,500 requests, 132,016 bytes. So a room of that length takes every one.
 use Prim.Native.Nat.{ℕ, _+_, _≤_}
 use native.Mathlib.Omega.{arith}
 use mathlib.Core.Path.{_≡_, refl, ap, _∙_}
-use mathlib.Core.List.{List, [], _∷_}
+use mathlib.Core.List.{List}
 use lib.ListN.{length, take, drop}
 use lib.Seq.{take-append-seam}
 use Rattle.io.specs.Counts.{Counts}
 use Rattle.io.proofs.Counting.{counts}
-use Rattle.files_words.specs.Words.{written, put}
-use Rattle.files_words.proofs.WordLaws.{length-written}
+use Rattle.files_words.specs.Bytes.{asBytes, put}
+use Rattle.files_words.proofs.WordLaws.{length-as-bytes}
 use Rattle.files_words.proofs.PutLaws.{put-fits, length-put}
 use Rattle.files_reader.specs.Reader.{readingOf}
 use Rattle.files_reader.specs.declared.Reading.{Reading}
 use Rattle.files_reader.specs.declared.Reading.the-variants.{Sections, Refused}
-use Rattle.files_results.specs.Results.{resultBy, resultFile}
-use Rattle.files_results.proofs.Rows.{small, result-length}
+use Rattle.files_reader.proofs.Accepted.{accepted-counts}
+use Rattle.files_results.specs.Results.{longestResult, refusedFile, resultBy, resultFile}
+use Rattle.files_results.proofs.Rows.{result-length}
 
-longest-by : (file : List ℕ) (reading : Reading) → readingOf file ≡ reading → length (written (resultBy file reading)) ≤ 132016
-longest-by file (Sections places) e = omega (arith, result-length file places, small file places e)
-longest-by file (Refused number place) e = omega (arith, length-written (1 ∷ 0 ∷ number ∷ []))
+longest-by : (file : List ℕ) (reading : Reading) → readingOf file ≡ reading → length (asBytes (resultBy file reading)) ≤ longestResult
+longest-by file (Sections places) e = omega (arith, result-length file places, accepted-counts file places e)
+longest-by file (Refused number place) e = omega (arith, length-as-bytes (refusedFile number))
 
 pub longest : (file : List ℕ) → length (resultFile file) ≤ 132016
 unfolding resultFile

@@ -10,6 +10,7 @@ ghost use mathlib.Core.Path.{_≡_};
 ghost use lib.ListN.{take};
 ghost use Rattle.io.specs.Counts.{Counts};
 ghost use Rattle.files_results.specs.Results.{resultFile};
+use files_results::LONGEST_RESULT;
 use libc::STDERR_FILENO;
 use libc::STDIN_FILENO;
 use libc::STDOUT_FILENO;
@@ -29,18 +30,21 @@ fn main() {
 // The file that the first argument names.
 fn propagate_named() {
     let mut path = io::buffer();
-    let length = os::arg(1, &mut path);
+    let size = os::arg(1, &mut path);
     if os::errno() != 0 {
         os::fail(b"the name of the file");
         return;
     }
-    let fd = os::open_read(&path[..length]);
+    let fd = os::open_read(&path[..size]);
     if fd < 0 {
-        os::fail(&path[..length]);
+        os::fail(&path[..size]);
         return;
     }
-    propagate(fd, &path[..length]);
+    propagate(fd, &path[..size]);
 }
+
+// The bytes that are read of a file: one more than the longest that can be accepted has.
+const READ: usize = files_reader::LONGEST_FILE + 1;
 
 // A file that is open, and is called by this name. Of a longer file only the first 56,161 bytes are
 // read, one more than can be accepted, and their result file is that of the whole, whatever follows
@@ -50,7 +54,7 @@ fn propagate_named() {
 // The file is closed before anything is written: where an output was closed when the program
 // started, the file has been given its number.
 fn propagate(fd: i32, name: &[u8]) {
-    let mut file = [0u8; 56161];
+    let mut file = [0u8; READ];
     match streams::read_whole(fd, &mut file) {
         Taken::Bytes(n) => {
             libc::close(fd);
@@ -64,19 +68,18 @@ fn propagate(fd: i32, name: &[u8]) {
 
 // Writes the result file of an element file to standard output.
 fn answer(file: &[u8]) {
-    let mut room = [0u8; 132016];
-    let length = results_of(file, &mut room);
-    if let Taken::Failed = streams::write_whole(STDOUT_FILENO, &room[..length]) {
+    let mut room = [0u8; LONGEST_RESULT];
+    let size = results_of(file, &mut room);
+    if let Taken::Failed = streams::write_whole(STDOUT_FILENO, &room[..size]) {
         os::fail(b"standard output");
     }
 }
 
-// The result file of an element file stands at the start of the room, which is as long as the longest:
-// 16 bytes, and 88 for each of 1,500 requests. Answers its length.
-fn results_of(file: &[u8], room: &mut [u8; 132016]) -> usize
+// The result file of an element file stands at the start of the room, which is as long as the longest. Answers its size.
+fn results_of(file: &[u8], room: &mut [u8; LONGEST_RESULT]) -> usize
     ensures { λ r. ⌜ Counts r (now (room .exit)) ⌝ }
     ensures { λ r. ⌜ take r (now (room .exit)) ≡ resultFile (now (file .entry)) ⌝ }
 {
     let outcome = files_results::write_results(file, room);
-    outcome.length
+    outcome.size
 }

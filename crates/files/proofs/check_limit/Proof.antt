@@ -3,12 +3,15 @@ use Prim.Native.Nat.{ℕ}
 use mathlib.Core.Path.{ap, _∙_}
 use borrow.Author.Needs.{needs}
 use lib.Dec.{leb}
-use Rattle.files_sections.specs.Sections.{need}
+use Rattle.files_sections.specs.Checks.{need}
 use Rattle.files.proofs.check_limit.Statement.{statement}
 use Rattle.files.proofs.check_limit.Tie as tie
 
 limit-requires : tie.Need-limit-requires
 limit-requires c κs = search needs
+
+cast-need : tie.Need-cast-need
+cast-need c = search needs
 
 need-requires : tie.Need-need-requires
 need-requires c κs = search needs
@@ -19,4 +22,4 @@ returns c =
     c .need .ensures ∙ ap (λ (l : ℕ). need (leb (a .count) l) 23 (a .place)) (c .before .limit .ensures)
 
 pub check-limit-spec : {M : Type 1} → statement M
-check-limit-spec = tie.close (tie.spec limit-requires need-requires returns)
+check-limit-spec = tie.close (tie.spec limit-requires cast-need need-requires returns)

@@ -4,7 +4,7 @@ use native.Mathlib.Omega.{arith}
 use mathlib.Core.Path.{sym, ap, _∙_}
 use borrow.Author.Needs.{needs}
 use borrow.Author.Tests.{leb-true}
-use Rattle.files_sections.specs.declared.Section.the-variants.{States, Requests}
+use Rattle.files_sections.specs.declared.sections.Section.the-variants.{States, Requests}
 use Rattle.files_sections.proofs.CheckLaws.{needed, stops, goes-on}
 use Rattle.files.specs.Writer.{limitCheck, limitChecks}
 use Rattle.files.proofs.check_limits.Statement.{statement}
@@ -25,7 +25,8 @@ returns c = stops _ _ _ (c .before .before .check-limit .ensures) (c .enum-told2
 
 cast-c : tie.Need-cast-c
 cast-c c =
-    let few : c .before .before .before .args .centres ≤ 16 = leb-true _ _ (needed _ _ _ (sym (c .before .before .check-limit .ensures) ∙ c .enum-told .given .1)) in
+    let sound = sym (c .before .before .check-limit .ensures) ∙ c .enum-told .given .1 in
+    let few : c .before .before .before .args .centres ≤ 16 = leb-true _ _ (needed _ _ _ sound) in
     omega arith
 
 states-place-requires : tie.Need-states-place-requires
@@ -45,12 +46,13 @@ unfolding limitChecks
 returns-2 c =
     let p = c .before .before .before in
     let a = p .before .before .before .before .args in
-    goes-on (p .before .before .before .check-limit .ensures) (p .before .enum-told .given .1)
-    (stops _ _ _ (c .before .before .check-limit2 .ensures ∙ ap (λ (n : ℕ). limitCheck States n (a .states)) (p .states-place .ensures)) (c .enum-told4 .given .1))
+    let second = c .before .before .check-limit2 .ensures ∙ ap (λ (n : ℕ). limitCheck States n (a .states)) (p .states-place .ensures) in
+    goes-on (p .before .before .before .check-limit .ensures) (p .before .enum-told .given .1) (stops _ _ _ second (c .enum-told4 .given .1))
 
 cast-requests-place : tie.Need-cast-requests-place
 cast-requests-place c =
-    let few : c .before .before .before .before .before .before .before .args .states ≤ 500 = leb-true _ _ (needed _ _ _ (sym (c .before .before .check-limit2 .ensures) ∙ c .enum-told3 .given .1)) in
+    let sound = sym (c .before .before .check-limit2 .ensures) ∙ c .enum-told3 .given .1 in
+    let few : c .before .before .before .before .before .before .before .args .states ≤ 500 = leb-true _ _ (needed _ _ _ sound) in
     omega arith
 
 requests-place-requires : tie.Need-requests-place-requires

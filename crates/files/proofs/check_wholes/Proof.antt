@@ -1,7 +1,7 @@
 -- The three checks, in file order.
 use mathlib.Core.Path.{ap₂, _∙_}
 use borrow.Author.Needs.{needs}
-use Rattle.files_sections.specs.Sections.{_⟫_}
+use Rattle.files_sections.specs.Checks.{_⟫_}
 use Rattle.files.specs.Writer.{wholeChecks}
 use Rattle.files.proofs.check_wholes.Statement.{statement}
 use Rattle.files.proofs.check_wholes.Tie as tie

@@ -3,11 +3,11 @@ use Prim.Native.Nat.{ℕ}
 use mathlib.Core.Path.{_≡_, sym, ap, ap₂, _∙_}
 use borrow.Author.Needs.{needs}
 use lib.ListN.{length}
-use Rattle.files_sections.specs.declared.Section.the-variants.{Centres, States, Requests}
-use Rattle.files_sections.specs.declared.Check.{Check}
-use Rattle.files_sections.specs.Sections.{_⟫_}
+use Rattle.files_sections.specs.declared.sections.Section.the-variants.{Centres, States, Requests}
+use Rattle.files_sections.specs.declared.checks.Check.{Check}
+use Rattle.files_sections.specs.Checks.{_⟫_}
 use Rattle.files_sections.proofs.CheckLaws.{stops, goes-on}
-use Rattle.files.specs.Writer.{recordsIn, limitChecks, roomCheck, refusalOf, Within}
+use Rattle.files.specs.Writer.{recordsIn, limitChecks, roomCheck, writeCheck, Within}
 use Rattle.files.proofs.WriteLaws.{limits-sound}
 use Rattle.files.proofs.judge.Statement.{statement}
 use Rattle.files.proofs.judge.Tie as tie
@@ -19,7 +19,7 @@ limits : (c : tie.After-check-limits) →
     ≡ limitChecks (recordsIn Centres (length (a .centres .now))) (recordsIn States (length (a .states .now))) (recordsIn Requests (length (a .requests .now)))
 limits c =
     c .check-limits .ensures
-    ∙ ap₂ (λ (f : ℕ → Check) (n : ℕ). f n) (ap₂ limitChecks (c .before .before .before .records .ensures) (c .before .before .records2 .ensures)) (c .before .records3 .ensures)
+    ∙ (λ i. limitChecks (c .before .before .before .records .ensures i) (c .before .before .records2 .ensures i) (c .before .records3 .ensures i))
 
 -- a sound one bounds them
 within : (c : tie.After-enum-told3) →
@@ -39,7 +39,7 @@ enum-told-2 : tie.Need-enum-told-2
 enum-told-2 c = search needs
 
 returns : tie.Need-returns
-unfolding refusalOf
+unfolding writeCheck
 returns c = stops _ _ _ (c .before .before .check-wholes .ensures) (c .enum-told2 .given .1)
 
 records-requires : tie.Need-records-requires
@@ -61,13 +61,13 @@ enum-told-4 : tie.Need-enum-told-4
 enum-told-4 c = search needs
 
 returns-2 : tie.Need-returns-2
-unfolding refusalOf
+unfolding writeCheck
 returns-2 c =
     let p = c .before .before .before .before .before .before in
     goes-on (p .before .before .check-wholes .ensures) (p .enum-told .given .1) (stops _ _ _ (limits (c .before .before)) (c .enum-told4 .given .1))
 
-file-length-requires : tie.Need-file-length-requires
-file-length-requires c κs = within c
+file-size-requires : tie.Need-file-size-requires
+file-size-requires c κs = within c
 
 check-numbers-requires : tie.Need-check-numbers-requires
 check-numbers-requires c κs = within (c .before)
@@ -79,7 +79,7 @@ first-requires : tie.Need-first-requires
 first-requires c κs = search needs
 
 returns-3 : tie.Need-returns-3
-unfolding refusalOf
+unfolding writeCheck
 returns-3 c =
     let q = c .before .before .before .before in
     let p = q .before .before .before .before .before .before in
@@ -88,7 +88,7 @@ returns-3 c =
     (goes-on (limits (q .before .before)) (q .enum-told3 .given .1)
     (c .first .ensures
     ∙ ap₂ _⟫_ (c .before .before .check-numbers .ensures)
-    (c .before .check-room .ensures ∙ ap (λ (n : ℕ). roomCheck n room) (c .before .before .before .file-length .ensures))))
+    (c .before .check-room .ensures ∙ ap (λ (n : ℕ). roomCheck n room) (c .before .before .before .file-size .ensures))))
 
 pub judge-spec : {M : Type 1} → statement M
 judge-spec =
@@ -105,7 +105,7 @@ judge-spec =
     enum-told-3
     enum-told-4
     returns-2
-    file-length-requires
+    file-size-requires
     check-numbers-requires
     check-room-requires
     first-requires

@@ -2,8 +2,8 @@
 use Prim.Native.Nat.{ℕ}
 use mathlib.Core.Path.{ap, ap₂, _∙_}
 use borrow.Author.Needs.{needs}
-use Rattle.files_words.specs.Words.{written, put}
-use Rattle.files_sections.specs.declared.Section.the-variants.{States, Requests}
+use Rattle.files_words.specs.Bytes.{asBytes, put}
+use Rattle.files_sections.specs.declared.sections.Section.the-variants.{States, Requests}
 use Rattle.files_sections.specs.Sections.{statesPlace, requestsPlace}
 use Rattle.files.specs.Writer.{sectionWords}
 use Rattle.files.proofs.WriteLaws.{file-put}
@@ -53,13 +53,15 @@ returns c =
     let a = start .args in
     let e = p0 .before .before .before .records .ensures in
     let f = p0 .before .before .records2 .ensures in
+    let s = p2 .before .states-place .ensures ∙ ap statesPlace e in
+    let r = p3 .before .requests-place .ensures ∙ ap₂ requestsPlace e f in
     file-put (a .centres .now) (a .states .now) (a .requests .now) (a .room .now)
     (p0 .put-word .last .0) (p1 .put-section .last .0) (p2 .put-section2 .last .0) (p3 .put-section3 .last .0)
     (start .pre)
     (p0 .put-word .ensures)
     (p1 .put-section .ensures)
-    (p2 .put-section2 .ensures ∙ ap (λ (p : ℕ). put (p1 .put-section .last .0) p (written (sectionWords States (a .states .now)))) (p2 .before .states-place .ensures ∙ ap statesPlace e))
-    (p3 .put-section3 .ensures ∙ ap (λ (p : ℕ). put (p2 .put-section2 .last .0) p (written (sectionWords Requests (a .requests .now)))) (p3 .before .requests-place .ensures ∙ ap₂ requestsPlace e f))
+    (p2 .put-section2 .ensures ∙ ap (λ (p : ℕ). put (p1 .put-section .last .0) p (asBytes (sectionWords States (a .states .now)))) s)
+    (p3 .put-section3 .ensures ∙ ap (λ (p : ℕ). put (p2 .put-section2 .last .0) p (asBytes (sectionWords Requests (a .requests .now)))) r)
 
 pub put-file-spec : {M : Type 1} → statement M
 put-file-spec =

@@ -5,7 +5,7 @@ use mathlib.Core.Path.{sym, ap, _∙_}
 use mathlib.Core.List.{List}
 use borrow.Author.Needs.{needs}
 use lib.ListN.{length}
-use Rattle.files_words.specs.Words.{bytesOf, written, put}
+use Rattle.files_words.specs.Bytes.{bytesOf, asBytes, put}
 use Rattle.files_words.proofs.PutLaws.{first-put}
 use Rattle.files.specs.Writer.{recordsIn}
 use Rattle.files.proofs.put_section.Statement.{statement}
@@ -28,11 +28,13 @@ same-length c = search needs
 
 returns : tie.Need-returns
 returns c =
-    let a = c .before .before .before .before .before .before .before .before .before .before .before .args in
+    let p = c .before .before .before .before .before .before in
+    let start = p .before .before .before .before .before in
+    let a = start .args in
     c .before .before .put-words .ensures
-    ∙ ap (λ (d : List ℕ). put d (a .place + 8) (written (a .run .now)))
-    (c .before .before .before .before .before .before .put-word .ensures ∙ ap (λ (n : ℕ). put (a .room .now) (a .place) (bytesOf 8 n)) (c .before .before .before .before .before .before .before .records .ensures))
-    ∙ sym (first-put (a .room .now) (a .place) (recordsIn (a .section) (length (a .run .now))) (a .run .now) (omega (arith, c .before .before .before .before .before .before .before .before .before .before .before .pre)))
+    ∙ ap (λ (d : List ℕ). put d (a .place + 8) (asBytes (a .run .now)))
+    (p .put-word .ensures ∙ ap (λ (n : ℕ). put (a .room .now) (a .place) (bytesOf 8 n)) (p .before .records .ensures))
+    ∙ sym (first-put (a .room .now) (a .place) (recordsIn (a .section) (length (a .run .now))) (a .run .now) (omega (arith, start .pre)))
 
 pub put-section-spec : {M : Type 1} → statement M
 put-section-spec =

@@ -10,6 +10,9 @@ use Rattle.files.proofs.records.Tie as tie
 width-requires : tie.Need-width-requires
 width-requires c κs = search needs
 
+cast-result : tie.Need-cast-result
+cast-result c = search needs
+
 div-result : tie.Need-div-result
 div-result c = omega (arith, width-bounds (c .before .args .section), c .width .ensures)
 
@@ -17,4 +20,4 @@ returns : tie.Need-returns
 returns c = ap (λ (w : ℕ). c .before .args .words / w) (c .width .ensures)
 
 pub records-spec : {M : Type 1} → statement M
-records-spec = tie.close (tie.spec width-requires div-result returns)
+records-spec = tie.close (tie.spec width-requires cast-result div-result returns)

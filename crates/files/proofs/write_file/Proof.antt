@@ -27,8 +27,8 @@ enum-told c = search needs
 put-file-requires : tie.Need-put-file-requires
 put-file-requires c κs = accepted (c .before)
 
-file-length-requires : tie.Need-file-length-requires
-file-length-requires c κs = accepted (c .before .before .before .before) .within
+file-size-requires : tie.Need-file-size-requires
+file-size-requires c κs = accepted (c .before .before .before .before) .within
 
 returns : tie.Need-returns
 unfolding writingOf roomOf
@@ -43,7 +43,7 @@ returns-2 : tie.Need-returns-2
 unfolding writingOf roomOf
 returns-2 c =
     let e = sym (c .before .before .before .before .before .before .before .judge .ensures) ∙ c .before .before .before .before .before .enum-told .given .1 in
-    (rw e (ap Length (c .file-length .ensures)), rw e (c .before .before .before .put-file .ensures))
+    (rw e (ap Length (c .file-size .ensures)), rw e (c .before .before .before .put-file .ensures))
 
 pub write-file-spec : {M : Type 1} → statement M
 write-file-spec =
@@ -53,7 +53,7 @@ write-file-spec =
     enum-known-verdict
     enum-told
     put-file-requires
-    file-length-requires
+    file-size-requires
     returns
     same-length
     returns-2)

@@ -4,7 +4,7 @@ use mathlib.Core.Path.{ap, ap₂, _∙_}
 use mathlib.Core.Bool.{Bool}
 use borrow.Author.Needs.{needs}
 use lib.Dec.{eqb}
-use Rattle.files_sections.specs.Sections.{need, _⟫_}
+use Rattle.files_sections.specs.Checks.{need, _⟫_}
 use Rattle.files_reader.specs.Reader.{editionCheck}
 use Rattle.files_reader.proofs.check_edition.Statement.{statement}
 use Rattle.files_reader.proofs.check_edition.Tie as tie

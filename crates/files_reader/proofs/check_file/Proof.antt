@@ -1,7 +1,7 @@
 -- The edition, then the sections.
 use borrow.Author.Needs.{needs}
 use Rattle.files_sections.proofs.CheckLaws.{stops, goes-on}
-use Rattle.files_reader.specs.Reader.{requestsCheck, statesCheck, centresCheck, fileCheck}
+use Rattle.files_reader.specs.Reader.{sectionsCheck, fileCheck}
 use Rattle.files_reader.proofs.check_file.Statement.{statement}
 use Rattle.files_reader.proofs.check_file.Tie as tie
 
@@ -15,15 +15,15 @@ enum-told-2 : tie.Need-enum-told-2
 enum-told-2 c = search needs
 
 returns : tie.Need-returns
-unfolding fileCheck centresCheck statesCheck requestsCheck
+unfolding fileCheck sectionsCheck
 returns c = stops _ _ _ (c .before .before .check-edition .ensures) (c .enum-told2 .given .1)
 
-check-centres-requires : tie.Need-check-centres-requires
-check-centres-requires c κs = search needs
+check-sections-requires : tie.Need-check-sections-requires
+check-sections-requires c κs = search needs
 
 returns-2 : tie.Need-returns-2
-unfolding fileCheck centresCheck statesCheck requestsCheck
-returns-2 c = goes-on (c .before .before .before .check-edition .ensures) (c .before .enum-told .given .1) (c .check-centres .ensures)
+unfolding fileCheck sectionsCheck
+returns-2 c = goes-on (c .before .before .before .check-edition .ensures) (c .before .enum-told .given .1) (c .check-sections .ensures)
 
 pub check-file-spec : {M : Type 1} → statement M
 check-file-spec =
@@ -33,5 +33,5 @@ check-file-spec =
     enum-told
     enum-told-2
     returns
-    check-centres-requires
+    check-sections-requires
     returns-2)

@@ -4,7 +4,7 @@ use native.Mathlib.Omega.{arith}
 use mathlib.Core.Path.{_≡_, ap, ap₂, _∙_}
 use mathlib.Core.List.{List}
 use borrow.Author.Needs.{needs}
-use Rattle.files_words.specs.Words.{wordAt}
+use Rattle.files_words.specs.Bytes.{wordAt}
 use Rattle.files_sections.specs.Sections.{statesPlace, requestsPlace}
 use Rattle.files_reader.specs.declared.Places.{Places}
 use Rattle.files_reader.specs.Reader.{sectionsOf}

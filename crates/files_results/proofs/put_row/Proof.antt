@@ -1,15 +1,15 @@
 -- The first eleven of the answer's words, put where the row stands.
-use Prim.Native.Nat.{ℕ, _+_, _*_}
-use mathlib.Core.Path.{_≡_, _∙_, ap}
+use Prim.Native.Nat.{ℕ}
+use mathlib.Core.Path.{_≡_, _∙_, ap, ap₂}
 use mathlib.Core.List.{List}
 use native.Mathlib.Omega.{arith}
 use borrow.Author.Needs.{needs}
 use lib.ListN.{length, take, length-take}
 use Rattle.states_arcs.specs.Results.{figuresOf}
 use Rattle.states.specs.Call.{answerWords, propagateOf}
-use Rattle.files_words.specs.Words.{written, put}
-use Rattle.files_results.proofs.Rows.{small}
-use Rattle.files_results.specs.Results.{rowOf}
+use Rattle.files_words.specs.Bytes.{asBytes, put}
+use Rattle.files_reader.proofs.Accepted.{accepted-counts}
+use Rattle.files_results.specs.Results.{rowWords, rowOf}
 use Rattle.files_results.proofs.put_row.Statement.{statement}
 use Rattle.files_results.proofs.put_row.Tie as tie
 
@@ -22,11 +22,10 @@ propagate-requires c κs = search needs
 words-of-requires : tie.Need-words-of-requires
 words-of-requires c κs = search needs
 
-mul-put-words : tie.Need-mul-put-words
-mul-put-words c = omega (arith, small (c .before .before .before .before .before .before .args .file .now) (c .before .before .before .before .before .before .args .places) (c .before .before .before .before .before .before .pre .0), c .before .before .before .before .before .before .pre .1)
-
-add-put-words : tie.Need-add-put-words
-add-put-words c = omega (arith, small (c .before .before .before .before .before .before .args .file .now) (c .before .before .before .before .before .before .args .places) (c .before .before .before .before .before .before .pre .0), c .before .before .before .before .before .before .pre .1)
+row-place-requires : tie.Need-row-place-requires
+row-place-requires c κs =
+    let p = c .before .before .before .before .before .before in
+    omega (arith, accepted-counts (p .args .file .now) (p .args .places) (p .pre .0), p .pre .1)
 
 array-share-prefix-words : tie.Need-array-share-prefix-words
 array-share-prefix-words c = search needs
@@ -34,7 +33,7 @@ array-share-prefix-words c = search needs
 slice-aggregate-put-words : tie.Need-slice-aggregate-put-words
 unfolding answerWords figuresOf
 slice-aggregate-put-words c =
-    let l : length (c .before .before .words-of .result) ≡ 15 = ap length (c .before .before .words-of .ensures) in
+    let l : length (c .before .before .before .words-of .result) ≡ 15 = ap length (c .before .before .before .words-of .ensures) in
     simp length-take (omega (arith, l))
 
 put-words-requires : tie.Need-put-words-requires
@@ -46,10 +45,11 @@ same-length c = search needs
 returns : tie.Need-returns
 unfolding rowOf
 returns c =
-    let a = c .before .before .before .before .before .before .before .before .before .before .args in
+    let w = c .before .before .before .before .before .before in
+    let a = w .before .before .before .before .before .args in
+    let words = w .words-of .ensures ∙ ap answerWords (w .before .propagate .ensures ∙ ap propagateOf (w .before .before .request-words .ensures)) in
     c .before .before .put-words .ensures
-    ∙ ap (λ (words : List ℕ). put (a .room .now) (16 + 88 * a .k) (written (take 11 words)))
-    (c .before .before .before .before .before .words-of .ensures ∙ ap answerWords (c .before .before .before .before .before .before .propagate .ensures ∙ ap propagateOf (c .before .before .before .before .before .before .before .request-words .ensures)))
+    ∙ ap₂ (λ (p : ℕ) (words : List ℕ). put (a .room .now) p (asBytes (take rowWords words))) (c .before .before .before .before .row-place .ensures) words
 
 pub put-row-spec : {M : Type 1} → statement M
 put-row-spec =
@@ -58,8 +58,7 @@ put-row-spec =
     request-words-requires
     propagate-requires
     words-of-requires
-    mul-put-words
-    add-put-words
+    row-place-requires
     array-share-prefix-words
     slice-aggregate-put-words
     put-words-requires

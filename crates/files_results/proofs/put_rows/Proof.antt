@@ -4,36 +4,37 @@ use mathlib.Core.List.{List}
 use mathlib.Core.Path.{_≡_, sym, ap, _∙_}
 use native.Mathlib.Omega.{arith}
 use lib.ListN.{length}
-use Rattle.files_words.specs.Words.{written, put}
+use Rattle.files_words.specs.Bytes.{asBytes}
 use Rattle.files_reader.specs.declared.Places.{Places}
 use Rattle.files_words.proofs.PutLaws.{put-nothing}
-use Rattle.files_results.specs.Requests.{requestWords}
 use Rattle.files_results.proofs.Rows.{row-after, room-length}
-use Rattle.files_results.specs.Results.{rowOf, rowsOf, rowPlace}
+use Rattle.files_results.specs.Results.{rowsOf, rowPlace, withRow, withRows}
 use Rattle.files_results.proofs.put_rows.Statement.{statement}
 use Rattle.files_results.proofs.put_rows.Tie as tie
 
 module _ (file : List ℕ) (places : Places) (room : List ℕ) (n : ℕ) where
-  start : 16 ≤ length room → room ≡ put room 16 (written (rowsOf file places (n - n)))
-  unfolding rowsOf written
+  start : rowPlace 0 ≤ length room → room ≡ withRows file places (n - n) room
+  unfolding rowsOf asBytes
   start h =
       let e : n - n ≡ 0 = omega arith in
-      sym (ap (λ (k : ℕ). put room 16 (written (rowsOf file places k))) e ∙ put-nothing room 16 h)
+      sym (ap (λ (k : ℕ). withRows file places k room) e ∙ put-nothing room (rowPlace 0) h)
 
-  next : (left : ℕ) → 0 < left → left ≤ n → rowPlace n ≤ length room
-      → put (put room 16 (written (rowsOf file places (n - left)))) (rowPlace (n - left)) (written (rowOf (requestWords file places (n - left)))) ≡ put room 16 (written (rowsOf file places (n - (left - 1))))
+  next : (left : ℕ) → 0 < left → left ≤ n → rowPlace n ≤ length room →
+      withRow file places (n - left) (withRows file places (n - left) room) ≡ withRows file places (n - (left - 1)) room
   next left h l r =
       let e : suc (n - left) ≡ n - (left - 1) = omega arith in
-      row-after file places room (n - left) (omega arith) ∙ ap (λ (k : ℕ). put room 16 (written (rowsOf file places k))) e
+      row-after file places room (n - left) (omega arith) ∙ ap (λ (k : ℕ). withRows file places k room) e
 
 abbrev Inv-loop : tie.InvT-loop
-Inv-loop file places room₀ n left₀ room left = (left ≤ n) × (room ≡ put room₀ 16 (written (rowsOf file places (n - left))))
+Inv-loop file places room₀ n left₀ room left = (left ≤ n) × (room ≡ withRows file places (n - left) room₀)
 
 abbrev μ-loop : tie.MeasureT-loop
 μ-loop file places room₀ n left₀ room left = left
 
 loop-holds : tie.Need-loop-holds Inv-loop μ-loop
-loop-holds c = (omega arith, start (c .before .before .args .file .now) (c .before .before .args .places) (c .before .before .args .room .now) (c .before .before .args .places .requests .count) (omega (arith, c .before .before .pre .1)))
+loop-holds c =
+    let a = c .before .before .args in
+    (omega arith, start (a .file .now) (a .places) (a .room .now) (a .places .requests .count) (omega (arith, c .before .before .pre .1)))
 
 sub-put-row : tie.Need-sub-put-row Inv-loop μ-loop
 sub-put-row c = omega arith
@@ -49,13 +50,15 @@ loop-less c = omega arith
 
 loop-again : tie.Need-loop-again Inv-loop μ-loop
 loop-again c =
-    let a = c .before .before .before .before .before .before .before .before .args in
+    let start = c .before .before .before .before .before .before .before .before in
+    let a = start .args in
     let l = c .before .before .before .before .before .loop in
-    let n = a .places .requests .count in (
+    let n = a .places .requests .count in
+    let more = c .before .before .before .before .loop-test .taken in (
       omega arith,
       c .before .before .put-row .ensures
-          ∙ ap (λ (room : List ℕ). put room (rowPlace (n - l .left)) (written (rowOf (requestWords (a .file .now) (a .places) (n - l .left))))) (l .inv .1)
-          ∙ next (a .file .now) (a .places) (a .room .now) n (l .left) (c .before .before .before .before .loop-test .taken) (l .inv .0) (c .before .before .before .before .before .before .before .before .pre .1),
+          ∙ ap (withRow (a .file .now) (a .places) (n - l .left)) (l .inv .1)
+          ∙ next (a .file .now) (a .places) (a .room .now) n (l .left) more (l .inv .0) (start .pre .1),
     )
 
 same-length : tie.Need-same-length Inv-loop μ-loop
@@ -71,7 +74,7 @@ returns c =
     let l = c .before .loop in
     let n = a .places .requests .count in
     let e : n - l .left ≡ n = omega arith in
-    l .inv .1 ∙ ap (λ (k : ℕ). put (a .room .now) 16 (written (rowsOf (a .file .now) (a .places) k))) e
+    l .inv .1 ∙ ap (λ (k : ℕ). withRows (a .file .now) (a .places) k (a .room .now)) e
 
 pub put-rows-spec : {M : Type 1} → statement M
 put-rows-spec =

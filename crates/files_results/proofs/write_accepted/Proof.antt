@@ -1,25 +1,34 @@
 -- The head and the rows fit, or nothing is written.
-use Prim.Native.Nat.{ℕ}
-use mathlib.Core.Path.{_∙_, ap}
+use Prim.Native.Nat.{ℕ, _≤_}
+use mathlib.Core.Path.{_≡_, _∙_, ap, sym}
 use mathlib.Core.List.{List}
 use native.Mathlib.Omega.{arith}
 use borrow.Author.Needs.{needs}
-use Rattle.files_words.specs.Words.{written, put}
-use Rattle.files_results.proofs.Rows.{small, result-length, all-rows, too-short, long-enough}
-use Rattle.files_results.specs.Results.{rowsOf, sectionsWords}
+use lib.ListN.{length}
+use Rattle.files_words.specs.Bytes.{asBytes}
+use Rattle.files_results.proofs.Rows.{result-length, all-rows, too-short, long-enough}
+use Rattle.files_reader.proofs.Accepted.{accepted-counts}
+use Rattle.files_results.specs.Results.{rowPlace, sectionsWords, withRows}
 use Rattle.files_results.proofs.write_accepted.Statement.{statement}
 use Rattle.files_results.proofs.write_accepted.Tie as tie
 
-mul-length : tie.Need-mul-length
-mul-length c = omega (arith, small (c .before .before .args .file .now) (c .before .before .args .places) (c .before .before .pre))
+row-place-requires : tie.Need-row-place-requires
+row-place-requires c κs =
+    let p = c .before .before in
+    omega (arith, accepted-counts (p .args .file .now) (p .args .places) (p .pre))
 
-add-length : tie.Need-add-length
-add-length c = omega (arith, small (c .before .before .args .file .now) (c .before .before .args .places) (c .before .before .pre))
+-- the size that was worked out is the result file's
+sized : (c : tie.After-row-place) →
+    let a = c .before .before .before .args in
+    length (asBytes (sectionsWords (a .file .now) (a .places))) ≡ c .row-place .result
+sized c =
+    let a = c .before .before .before .args in
+    result-length (a .file .now) (a .places) ∙ sym (c .row-place .ensures)
 
 returns : tie.Need-returns
 returns c =
-    let a = c .before .before .before .args in
-    too-short (written (sectionsWords (a .file .now) (a .places))) (a .room .now) (result-length (a .file .now) (a .places)) (c .if1 .taken)
+    let a = c .before .before .before .before .args in
+    too-short (asBytes (sectionsWords (a .file .now) (a .places))) _ (sized (c .before)) (c .if1 .taken)
 
 slice-aggregate-put-words : tie.Need-slice-aggregate-put-words
 slice-aggregate-put-words c = search needs
@@ -35,12 +44,13 @@ same-length c = search needs
 
 returns-2 : tie.Need-returns-2
 returns-2 c =
-    let a = c .before .before .before .before .before .before .before .before .before .before .before .before .args in
+    let p = c .before .before .before .before .before .before .before .before .before in
+    let a = p .before .before .before .before .args in
     let file = a .file .now in
-    let long = c .before .before .before .before .before .before .before .before .before .if1 .left in (
-      long-enough (written (sectionsWords file (a .places))) (a .room .now) (result-length file (a .places)) long,
+    let long : rowPlace (a .places .requests .count) ≤ length (a .room .now) = omega (arith, p .if1 .left, p .before .row-place .ensures) in (
+      long-enough (asBytes (sectionsWords file (a .places))) (a .room .now) (sized (p .before)) (p .if1 .left),
       c .before .before .put-rows .ensures
-          ∙ ap (λ (room : List ℕ). put room 16 (written (rowsOf file (a .places) (a .places .requests .count)))) (c .before .before .before .before .before .before .put-words .ensures)
+          ∙ ap (withRows file (a .places) (a .places .requests .count)) (c .before .before .before .before .before .before .put-words .ensures)
           ∙ all-rows file (a .places) (a .room .now) long,
     )
 
@@ -48,8 +58,7 @@ pub write-accepted-spec : {M : Type 1} → statement M
 write-accepted-spec =
     tie.close
     (tie.spec
-    mul-length
-    add-length
+    row-place-requires
     returns
     slice-aggregate-put-words
     put-words-requires

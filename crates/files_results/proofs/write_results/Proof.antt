@@ -1,9 +1,9 @@
 -- Each arm is the definition at what the reader answered.
 use mathlib.Core.Path.{sym, _∙_, ap}
 use borrow.Author.Needs.{needs}
-use Rattle.files_words.specs.Words.{written, put}
+use Rattle.files_words.specs.Bytes.{asBytes, put}
 use Rattle.files_reader.specs.declared.Reading.{Reading}
-use Rattle.files_results.specs.Results.{resultBy, resultFile, fits}
+use Rattle.files_results.specs.Results.{resultBy, resultFile, outcomeIn}
 use Rattle.files_results.proofs.write_results.Statement.{statement}
 use Rattle.files_results.proofs.write_results.Tie as tie
 
@@ -31,8 +31,8 @@ returns c =
     let a = c .before .before .before .before .before .before .before .before .before .before .args in
     let e = sym (c .before .before .before .before .before .places .given .1) ∙ c .before .before .before .before .before .before .before .read-file .ensures in
     let w = c .before .before .write-accepted .ensures in (
-      w .0 ∙ ap (λ (r : Reading). fits (written (resultBy (a .file .now) r)) (a .room .now)) e,
-      w .1 ∙ ap (λ (r : Reading). put (a .room .now) 0 (written (resultBy (a .file .now) r))) e,
+      w .0 ∙ ap (λ (r : Reading). outcomeIn (asBytes (resultBy (a .file .now) r)) (a .room .now)) e,
+      w .1 ∙ ap (λ (r : Reading). put (a .room .now) 0 (asBytes (resultBy (a .file .now) r))) e,
     )
 
 same-length-2 : tie.Need-same-length-2
@@ -44,8 +44,8 @@ returns-2 c =
     let a = c .before .before .before .before .before .before .before .before .before .before .args in
     let e = sym (c .before .before .before .before .before .number .given .1) ∙ c .before .before .before .before .before .before .before .read-file .ensures in
     let w = c .before .before .write-refused .ensures in (
-      w .0 ∙ ap (λ (r : Reading). fits (written (resultBy (a .file .now) r)) (a .room .now)) e,
-      w .1 ∙ ap (λ (r : Reading). put (a .room .now) 0 (written (resultBy (a .file .now) r))) e,
+      w .0 ∙ ap (λ (r : Reading). outcomeIn (asBytes (resultBy (a .file .now) r)) (a .room .now)) e,
+      w .1 ∙ ap (λ (r : Reading). put (a .room .now) 0 (asBytes (resultBy (a .file .now) r))) e,
     )
 
 pub write-results-spec : {M : Type 1} → statement M

@@ -5,7 +5,7 @@ use native.Mathlib.Nat.{add-zero}
 use mathlib.Core.Path.{_≡_, refl, sym, ap, _∙_}
 use borrow.Author.Needs.{needs}
 use lib.ListN.{length, set, length-set}
-use Rattle.files_words.specs.Words.{bytesOf, put}
+use Rattle.files_words.specs.Bytes.{bytesOf, put}
 use Rattle.files_words.proofs.PutLaws.{put-nothing, lowest-stored}
 use Rattle.files_words.proofs.put_bytes.Statement.{statement}
 use Rattle.files_words.proofs.put_bytes.Tie as tie

@@ -4,7 +4,7 @@ use mathlib.Core.Path.{sym, _∙_}
 use borrow.Author.Needs.{needs}
 use borrow.Author.Tests.{leb-true, leb-false}
 use lib.ListN.{length}
-use Rattle.files_words.specs.Words.{bytesOf}
+use Rattle.files_words.specs.Bytes.{bytesOf}
 use Rattle.files_words.proofs.PutLaws.{put-outside}
 use Rattle.files_words.proofs.put_word.Statement.{statement}
 use Rattle.files_words.proofs.put_word.Tie as tie
@@ -13,7 +13,9 @@ is-whole-requires : tie.Need-is-whole-requires
 is-whole-requires c κs = search needs
 
 put-bytes-requires : tie.Need-put-bytes-requires
-put-bytes-requires c κs = leb-true (c .before .before .before .before .before .args .place + 8) (length (c .before .before .before .before .before .args .room .now)) (sym (c .before .before .is-whole .ensures) ∙ c .before .if1 .taken)
+put-bytes-requires c κs =
+    let a = c .before .before .before .before .before .args in
+    leb-true (a .place + 8) (length (a .room .now)) (sym (c .before .before .is-whole .ensures) ∙ c .before .if1 .taken)
 
 same-length : tie.Need-same-length
 same-length c = search needs
@@ -28,7 +30,8 @@ returns-2 : tie.Need-returns-2
 unfolding bytesOf
 returns-2 c =
     let a = c .before .before .before .before .args in
-    sym (put-outside (a .room .now) (bytesOf 8 (a .word)) (a .place) (leb-false (c .before .before .before .before .args .place + 8) (length (c .before .before .before .before .args .room .now)) (sym (c .before .is-whole .ensures) ∙ c .if1 .left)))
+    let short = leb-false (a .place + 8) (length (a .room .now)) (sym (c .before .is-whole .ensures) ∙ c .if1 .left) in
+    sym (put-outside (a .room .now) (bytesOf 8 (a .word)) (a .place) short)
 
 pub put-word-spec : {M : Type 1} → statement M
 put-word-spec =

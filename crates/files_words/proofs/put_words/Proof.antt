@@ -2,8 +2,8 @@
 use native.Mathlib.Omega.{arith}
 use mathlib.Core.Path.{sym}
 use borrow.Author.Needs.{needs}
-use Rattle.files_words.specs.Words.{written}
-use Rattle.files_words.proofs.WordLaws.{length-written}
+use Rattle.files_words.specs.Bytes.{asBytes}
+use Rattle.files_words.proofs.WordLaws.{length-as-bytes}
 use Rattle.files_words.proofs.PutLaws.{put-outside}
 use Rattle.files_words.proofs.put_words.Statement.{statement}
 use Rattle.files_words.proofs.put_words.Tie as tie
@@ -11,12 +11,12 @@ use Rattle.files_words.proofs.put_words.Tie as tie
 returns : tie.Need-returns
 returns c =
     let a = c .before .before .before .args in
-    sym (put-outside (a .room .now) (written (a .run .now)) (a .place) (omega arith))
+    sym (put-outside (a .room .now) (asBytes (a .run .now)) (a .place) (omega arith))
 
 returns-2 : tie.Need-returns-2
 returns-2 c =
     let a = c .before .before .before .before .args in
-    sym (put-outside (a .room .now) (written (a .run .now)) (a .place) (omega (arith, length-written (a .run .now))))
+    sym (put-outside (a .room .now) (asBytes (a .run .now)) (a .place) (omega (arith, length-as-bytes (a .run .now))))
 
 put-each-requires : tie.Need-put-each-requires
 put-each-requires c κs = search needs

@@ -5,19 +5,19 @@ use native.Mathlib.Nat.{add-zero}
 use mathlib.Core.Path.{_≡_, refl, sym, ap, ap₂, _∙_}
 use borrow.Author.Needs.{needs}
 use lib.ListN.{take, drop}
-use Rattle.files_words.specs.Words.{number}
+use Rattle.files_words.specs.Bytes.{numberOf}
 use Rattle.files_words.proofs.WordLaws.{below-of, below-drop, number-bound, lower-byte}
 use Rattle.files_words.proofs.whole_word.Statement.{statement}
 use Rattle.files_words.proofs.whole_word.Tie as tie
 
 abbrev Inv-loop : tie.InvT-loop
-Inv-loop file place word₀ left₀ word left = (left ≤ 8) × (word ≡ number (take (8 - left) (drop (place + left) file)))
+Inv-loop file place word₀ left₀ word left = (left ≤ 8) × (word ≡ numberOf (take (8 - left) (drop (place + left) file)))
 
 abbrev μ-loop : tie.MeasureT-loop
 μ-loop file place word₀ left₀ word left = left
 
 loop-holds : tie.Need-loop-holds Inv-loop μ-loop
-unfolding number
+unfolding numberOf
 loop-holds c = (omega arith, refl)
 
 sub-left : tie.Need-sub-left Inv-loop μ-loop
@@ -58,9 +58,9 @@ loop-again c =
     let next : suc (a .place + (l .left - 1)) ≡ a .place + l .left = omega arith in
     let more : suc (8 - l .left) ≡ 8 - (l .left - 1) = omega arith in (
       omega arith,
-      ap₂ (λ (b n : ℕ). b + 256 * n) (c .wide .ensures .0) (l .inv .1 ∙ ap (λ (p : ℕ). number (take (8 - l .left) (drop p (a .file .now)))) (sym next))
+      ap₂ (λ (b n : ℕ). b + 256 * n) (c .wide .ensures .0) (l .inv .1 ∙ ap (λ (p : ℕ). numberOf (take (8 - l .left) (drop p (a .file .now)))) (sym next))
           ∙ sym (lower-byte (a .file .now) (a .place + (l .left - 1)) (8 - l .left) (omega arith))
-          ∙ ap (λ (n : ℕ). number (take n (drop (a .place + (l .left - 1)) (a .file .now)))) more,
+          ∙ ap (λ (n : ℕ). numberOf (take n (drop (a .place + (l .left - 1)) (a .file .now)))) more,
     )
 
 returns : tie.Need-returns Inv-loop μ-loop
@@ -68,7 +68,7 @@ returns c =
     let l = c .before .loop in
     let a = c .before .before .before .args in
     let none : l .left ≡ 0 = omega arith in
-    l .inv .1 ∙ ap₂ (λ (n p : ℕ). number (take n (drop p (a .file .now)))) (ap (λ (k : ℕ). 8 - k) none) (ap (λ (k : ℕ). a .place + k) none ∙ add-zero (a .place))
+    l .inv .1 ∙ ap₂ (λ (n p : ℕ). numberOf (take n (drop p (a .file .now)))) (ap (λ (k : ℕ). 8 - k) none) (ap (λ (k : ℕ). a .place + k) none ∙ add-zero (a .place))
 
 pub whole-word-spec : {M : Type 1} → statement M
 whole-word-spec =

@@ -12,18 +12,21 @@ is-whole-requires : tie.Need-is-whole-requires
 is-whole-requires c κs = search needs
 
 whole-word-requires : tie.Need-whole-word-requires
-whole-word-requires c κs = leb-true (c .before .before .before .args .place + 8) (length (c .before .before .before .args .file .now)) (sym (c .before .is-whole .ensures) ∙ c .if1 .taken)
+whole-word-requires c κs =
+    let a = c .before .before .before .args in
+    leb-true (a .place + 8) (length (a .file .now)) (sym (c .before .is-whole .ensures) ∙ c .if1 .taken)
 
 returns : tie.Need-returns
 returns c =
     let a = c .before .before .before .before .args in
-    c .whole-word .ensures
-    ∙ sym (word-whole (a .file .now) (a .place) (leb-true (c .before .before .before .before .args .place + 8) (length (c .before .before .before .before .args .file .now)) (sym (c .before .before .is-whole .ensures) ∙ c .before .if1 .taken)))
+    let whole = leb-true (a .place + 8) (length (a .file .now)) (sym (c .before .before .is-whole .ensures) ∙ c .before .if1 .taken) in
+    c .whole-word .ensures ∙ sym (word-whole (a .file .now) (a .place) whole)
 
 returns-2 : tie.Need-returns-2
 returns-2 c =
     let a = c .before .before .before .args in
-    sym (word-missing (a .file .now) (a .place) (leb-false (c .before .before .before .args .place + 8) (length (c .before .before .before .args .file .now)) (sym (c .before .is-whole .ensures) ∙ c .if1 .left)))
+    let short = leb-false (a .place + 8) (length (a .file .now)) (sym (c .before .is-whole .ensures) ∙ c .if1 .left) in
+    sym (word-missing (a .file .now) (a .place) short)
 
 pub word-at-spec : {M : Type 1} → statement M
 word-at-spec = tie.close (tie.spec is-whole-requires whole-word-requires returns returns-2)

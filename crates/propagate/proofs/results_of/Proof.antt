@@ -6,8 +6,8 @@ use mathlib.Core.List.{List}
 use borrow.Author.Needs.{needs}
 use lib.ListN.{length, take}
 use Rattle.io.specs.Counts.{Counts}
-use Rattle.files_words.specs.Words.{put}
-use Rattle.files_results.specs.Results.{resultFile, fits}
+use Rattle.files_words.specs.Bytes.{put}
+use Rattle.files_results.specs.Results.{longestResult, resultFile, outcomeIn}
 use Rattle.files_results.specs.declared.Outcome.{Outcome}
 use Rattle.propagate.proofs.Longest.{longest, put-first}
 use Rattle.propagate.proofs.results_of.Statement.{statement}
@@ -16,12 +16,12 @@ use Rattle.propagate.proofs.results_of.Tie as tie
 abbrev Holds : (file : List ℕ) (n : ℕ) (room : List ℕ) → Type 0
 Holds file n room = Counts n room × (take n room ≡ resultFile file)
 
-told : (file room now : List ℕ) (outcome : Outcome) → 132016 ≡ length room → outcome ≡ fits (resultFile file) room → now ≡ put room 0 (resultFile file) →
-    Holds file (outcome .length) now
-unfolding fits
+told : (file room now : List ℕ) (outcome : Outcome) → longestResult ≡ length room → outcome ≡ outcomeIn (resultFile file) room → now ≡ put room 0 (resultFile file) →
+    Holds file (outcome .size) now
+unfolding outcomeIn
 told file room now outcome l e p =
-    subst (λ (s : List ℕ). Holds file (outcome .length) s) (sym p)
-    (subst (λ (n : ℕ). Holds file n (put room 0 (resultFile file))) (sym (ap (λ (o : Outcome). o .length) e))
+    subst (λ (s : List ℕ). Holds file (outcome .size) s) (sym p)
+    (subst (λ (n : ℕ). Holds file n (put room 0 (resultFile file))) (sym (ap (λ (o : Outcome). o .size) e))
     (put-first room (resultFile file) (omega (arith, longest file))))
 
 write-results-requires : tie.Need-write-results-requires

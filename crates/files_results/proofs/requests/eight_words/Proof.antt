@@ -1,91 +1,45 @@
--- Each word is what `word_at` ensures of its place.
+-- Each word is what `field` ensures of it.
 use mathlib.Core.Path.{_∙_, ap₂}
 use mathlib.Core.List.{[], _∷_}
 use borrow.Author.Needs.{needs}
-use Rattle.files_results.specs.Requests.{tauWord, eightWords}
+use Rattle.files_results.specs.Requests.{tauOf}
 use Rattle.files_results.proofs.requests.eight_words.Statement.{statement}
 use Rattle.files_results.proofs.requests.eight_words.Tie as tie
 
-word-at-requires : tie.Need-word-at-requires
-word-at-requires c κs = search needs
-
-add-word-at : tie.Need-add-word-at
-add-word-at c = search needs
-
-word-at-requires-2 : tie.Need-word-at-requires-2
-word-at-requires-2 c κs = search needs
-
-add-word-at-2 : tie.Need-add-word-at-2
-add-word-at-2 c = search needs
-
-word-at-requires-3 : tie.Need-word-at-requires-3
-word-at-requires-3 c κs = search needs
-
-add-word-at-3 : tie.Need-add-word-at-3
-add-word-at-3 c = search needs
-
-word-at-requires-4 : tie.Need-word-at-requires-4
-word-at-requires-4 c κs = search needs
-
-add-word-at-4 : tie.Need-add-word-at-4
-add-word-at-4 c = search needs
-
-word-at-requires-5 : tie.Need-word-at-requires-5
-word-at-requires-5 c κs = search needs
-
-add-word-at-5 : tie.Need-add-word-at-5
-add-word-at-5 c = search needs
-
-word-at-requires-6 : tie.Need-word-at-requires-6
-word-at-requires-6 c κs = search needs
-
-add-word-at-6 : tie.Need-add-word-at-6
-add-word-at-6 c = search needs
-
-word-at-requires-7 : tie.Need-word-at-requires-7
-word-at-requires-7 c κs = search needs
-
-add-word-at-7 : tie.Need-add-word-at-7
-add-word-at-7 c = search needs
-
-word-at-requires-8 : tie.Need-word-at-requires-8
-word-at-requires-8 c κs = search needs
-
-add-word-at-8 : tie.Need-add-word-at-8
-add-word-at-8 c = search needs
-
-word-at-requires-9 : tie.Need-word-at-requires-9
-word-at-requires-9 c κs = search needs
-
-tau-word-requires : tie.Need-tau-word-requires
-tau-word-requires c κs = search needs
-
 returns : tie.Need-returns
-unfolding eightWords
 returns c =
-    let tau = c .tau-word .ensures ∙ ap₂ tauWord (c .before .before .word-at8 .ensures) (c .before .word-at9 .ensures) in
-    λ i. c .before .before .before .before .before .before .before .before .before .word-at .ensures i ∷ c .before .before .before .before .before .before .before .before .word-at2 .ensures i ∷ c .before .before .before .before .before .before .before .word-at3 .ensures i ∷ c .before .before .before .before .before .before .word-at4 .ensures i ∷ c .before .before .before .before .before .word-at5 .ensures i ∷ c .before .before .before .before .word-at6 .ensures i ∷ c .before .before .before .word-at7 .ensures i ∷ tau i ∷ []
+    let epoch = c .before in
+    let time = epoch .before in
+    let vz = time .before in
+    let vy = vz .before in
+    let vx = vy .before in
+    let z = vx .before in
+    let y = z .before in
+    let x = y .before in
+    let mu = x .before in
+    let tau = c .tau-of .ensures ∙ ap₂ tauOf (time .field8 .ensures) (epoch .field9 .ensures) in
+    λ i.
+    mu .field .ensures i
+    ∷ x .field2 .ensures i ∷ y .field3 .ensures i ∷ z .field4 .ensures i
+    ∷ vx .field5 .ensures i ∷ vy .field6 .ensures i ∷ vz .field7 .ensures i
+    ∷ tau i ∷ []
 
 pub eight-words-spec : {M : Type 1} → statement M
 eight-words-spec =
     tie.close
     (tie.spec
-    word-at-requires
-    add-word-at
-    word-at-requires-2
-    add-word-at-2
-    word-at-requires-3
-    add-word-at-3
-    word-at-requires-4
-    add-word-at-4
-    word-at-requires-5
-    add-word-at-5
-    word-at-requires-6
-    add-word-at-6
-    word-at-requires-7
-    add-word-at-7
-    word-at-requires-8
-    add-word-at-8
-    word-at-requires-9
-    tau-word-requires
+    (λ c κs. search needs)
+    (λ c κs. search needs)
+    (λ c. search needs)
+    (λ c κs. search needs)
+    (λ c. search needs)
+    (λ c κs. search needs)
+    (λ c κs. search needs)
+    (λ c. search needs)
+    (λ c κs. search needs)
+    (λ c. search needs)
+    (λ c κs. search needs)
+    (λ c κs. search needs)
+    (λ c κs. search needs)
+    (λ c κs. search needs)
     returns)

@@ -1,0 +1,73 @@
+-- The count, then the walk over as many words as it tells.
+use Prim.Native.Nat.{ℕ, _+_, _*_, _^_, _≤_}
+use native.Mathlib.Nat.{mul-le-mul}
+use native.Mathlib.Omega.{arith}
+use mathlib.Core.List.{[]}
+use mathlib.Core.Path.{sym, ap, _∙_}
+use borrow.Author.Needs.{needs}
+use lib.ListN.{length}
+use Rattle.files_words.specs.Bytes.{wordsFrom}
+use Rattle.files_sections.specs.Checks.{walk, rulingOf, countedCheck}
+use Rattle.files_sections.proofs.CheckLaws.{stops, goes-on}
+use Rattle.files_sections.proofs.CountedLaws.{count-sound}
+use Rattle.files_sections.proofs.checks.check_counted.Statement.{statement}
+use Rattle.files_sections.proofs.checks.check_counted.Tie as tie
+
+check-count-requires : tie.Need-check-count-requires
+check-count-requires c κs = search needs
+
+enum-told : tie.Need-enum-told
+enum-told c = search needs
+
+enum-told-2 : tie.Need-enum-told-2
+enum-told-2 c = search needs
+
+returns : tie.Need-returns
+unfolding countedCheck
+returns c = stops _ _ _ (c .before .before .check-count .ensures) (c .enum-told2 .given .1)
+
+word-at-requires : tie.Need-word-at-requires
+word-at-requires c κs = search needs
+
+-- the count word is whole, and the words are few
+counted : (c : tie.After-word-at) →
+    let a = c .before .before .before .before .before .args in
+    (a .place + 8 ≤ length (a .file .now)) × (c .word-at .result * a .width ≤ 2 ^ 16 * 2 ^ 16)
+counted c =
+    let a = c .before .before .before .before .before .args in
+    let fits = c .before .before .before .before .before .fits in
+    let sound = count-sound (a .file .now) (a .place) (a .limit) (sym (c .before .before .before .check-count .ensures) ∙ c .before .enum-told .given .1) in
+    let count : c .word-at .result ≤ 2 ^ 16 = omega (arith, c .word-at .ensures, sound .1, fits .limit) in
+    let width : a .width ≤ 2 ^ 16 = omega (arith, fits .width) in
+    (sound .0, mul-le-mul count width)
+
+mul-words : tie.Need-mul-words
+mul-words c = omega (arith, counted c)
+
+add-walk-words : tie.Need-add-walk-words
+add-walk-words c = omega (arith, counted c, c .before .before .before .before .before .good)
+
+walk-words-requires : tie.Need-walk-words-requires
+walk-words-requires c κs = omega (arith, counted c, c .before .before .before .before .before .good)
+
+returns-2 : tie.Need-returns-2
+unfolding countedCheck
+returns-2 c =
+    let a = c .before .before .before .before .before .before .args in
+    goes-on (c .before .before .before .before .check-count .ensures) (c .before .before .enum-told .given .1)
+    (c .walk-words .ensures
+    ∙ ap (λ (n : ℕ). walk (rulingOf (a .rule)) (a .place + 8) [] (n * a .width) (wordsFrom (a .file .now) (a .place + 8))) (c .before .word-at .ensures))
+
+pub check-counted-spec : {M : Type 1} → statement M
+check-counted-spec =
+    tie.close
+    (tie.spec
+    check-count-requires
+    enum-told
+    enum-told-2
+    returns
+    word-at-requires
+    mul-words
+    add-walk-words
+    walk-words-requires
+    returns-2)

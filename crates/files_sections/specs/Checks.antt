@@ -1,0 +1,74 @@
+-- Document 01, "Element file, edition 1": what a check finds, and the check of what stands after a count word. It is one check for every counted section of every
+-- file: the limit of its count, the words of a record and the rule for its words are given.
+use Prim.Native.Nat.{ℕ, zero, suc, _+_, _*_, _%_}
+use mathlib.Core.Bool.{Bool, true, false}
+use mathlib.Core.List.{List, [], _∷_, _++_}
+use lib.Dec.{ltb, leb, eqb}
+use lib.ListN.{length}
+use Rattle.bits.specs.Choice.{pick}
+use Rattle.files_words.specs.Bytes.{wordAt, wordsFrom}
+use Rattle.files_sections.specs.declared.checks.Check.{Check}
+use Rattle.files_sections.specs.declared.checks.Check.the-variants.{Sound, Fault}
+use Rattle.files_sections.specs.declared.checks.Rule.{Rule}
+use Rattle.files_sections.specs.declared.checks.Rule.the-variants.{Any, Numbers}
+
+-- ---- Checks: nothing wrong, or a refusal's number and its place. What has to hold; what a word's rule tells, 0 being nothing; one check before another, where
+-- the first fault is the refusal.
+
+abbrev pub need : Bool → ℕ → ℕ → Check
+need true number place = Sound
+need false number place = Fault number place
+
+abbrev pub told : ℕ → ℕ → Check
+told zero place = Sound
+told (suc n) place = Fault (suc n) place
+
+infixr 5 _⟫_
+abbrev pub _⟫_ : Check → Check → Check
+Sound ⟫ next = next
+Fault number place ⟫ next = Fault number place
+
+-- ---- The walk over the words of a section, one walk for every section. A ruling is the refusal of a word by the words of its section before it, in their order; 0
+-- where it has none. So many words are left of the section, the next stands at a place, and these are the words that there are from there on. "21 a needed word
+-- not whole"; "The place of a refusal is the first byte of the word at fault".
+
+abbrev pub Ruling : Type 0
+Ruling = (before : List ℕ) (word : ℕ) → ℕ
+
+unfoldable pub walk : Ruling → (place : ℕ) (before : List ℕ) (left : ℕ) (words : List ℕ) → Check
+walk ruling place before zero ws = Sound
+walk ruling place before (suc left) [] = Fault 21 place
+walk ruling place before (suc left) (w ∷ ws) = told (ruling before w) place ⟫ walk ruling (place + 8) (before ++ (w ∷ [])) left ws
+
+-- ---- "each after its count": at a place stands a count, within its limit ("23 count above limit"), then the words of so many records.
+
+unfoldable pub countCheck : List ℕ → (place limit : ℕ) → Check
+unfolding wordAt
+countCheck file place limit = need (leb (place + 8) (length file)) 21 place ⟫ need (leb (wordAt file place) limit) 23 place
+
+unfoldable pub countedCheck : List ℕ → (place limit width : ℕ) → Ruling → Check
+unfolding countCheck walk wordAt wordsFrom
+countedCheck file place limit width ruling =
+    countCheck file place limit
+    ⟫ walk ruling (place + 8) [] (wordAt file place * width) (wordsFrom file (place + 8))
+
+-- ---- The rules: "Float words may hold any bits"; "24 number not in its section", "Numbers start at 0". Word j of a section, the first being word 0, is the first
+-- of its record where records of `width` words begin there. It is the number of one of `below` records, or its refusal is 24.
+
+abbrev pub begins : (width j : ℕ) → Bool
+begins zero j = false
+begins (suc n) j = eqb (j % suc n) 0
+
+abbrev pub numberFault : (below width j word : ℕ) → ℕ
+numberFault below width j w = pick (begins width j) (pick (ltb w below) 0 24) 0
+
+abbrev pub faultOf : Rule → (j word : ℕ) → ℕ
+faultOf Any j w = 0
+faultOf (Numbers below width) j w = numberFault below width j w
+
+abbrev pub rulingOf : Rule → Ruling
+rulingOf rule before w = faultOf rule (length before) w
+
+-- ---- What the code's inner step answers: the refusal of word j, which a file has at a place, or 0.
+abbrev pub wordFault : Rule → List ℕ → (place j : ℕ) → ℕ
+wordFault rule file place j = pick (leb (place + 8) (length file)) (faultOf rule j (wordAt file place)) 21
