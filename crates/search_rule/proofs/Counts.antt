@@ -12,7 +12,7 @@ use Rattle.search_rule.specs.declared.pair.Pair.{Pair}
 use Rattle.search_rule.specs.declared.pair.Next.{Next}
 use Rattle.search_rule.specs.declared.pair.Next.the-variants as next
 use Rattle.search_rule.specs.Rule.{Point, Trials, Proposal, Ending, between, exact, unreadable, allShort, History, tries, ends, pointsIn, endingOf}
-use Rattle.search_rule.specs.Rule.{Sequel, onward, endAt, Outward, on, stop, outwardStep, goingOn, outward, outwardPart, attempt, isWide, halfway}
+use Rattle.search_rule.specs.Rule.{Sequel, onward, endAt, Outward, on, stop, outwardStep, goingOn, outward, outwardPart, attempt, isWide}
 use Rattle.search_rule.specs.Rule.{halving, isInside, round, inward, history, nextOf, counted}
 
 abbrev pub points : History → ℕ
@@ -40,9 +40,10 @@ pub used-is : (n : ℕ) (h : History) → used (counted n h) ≡ n + points h
 used-is n h = ap used (counted-is n h) ∙ used-next (n + points h) (endingOf h)
 
 -- ---- The parts of a history.
-pick-points : (b : Bool) (x y : History) (k : ℕ) → points x ≤ k → points y ≤ k → points (pick b x y) ≤ k
-pick-points true x y k h g = h
-pick-points false x y k h g = g
+-- A choice, with what its test says.
+pub pick-holds : (P : History → Type 0) (b : Bool) {x y : History} → (b ≡ true → P x) → (b ≡ false → P y) → P (pick b x y)
+pick-holds P true h g = h refl
+pick-holds P false h g = g refl
 
 pub onward-points : (k : ℕ) (tried : List Point) (h : History) (f : Sequel) → ((l : List Point) (s : Pair) → points (f l s) ≤ k)
     → points (onward tried h f) ≤ points h + k
@@ -56,7 +57,7 @@ onward-points k tried (ends allShort) f g = omega arith
 module _ (ev : Trials) where
   pub halving-points : (s : Pair) → points (halving ev s) ≤ 1
   unfolding pointsIn halving
-  halving-points s = pick-points (isWide s) (attempt ev s (halfway s)) (ends (between s)) 1 (omega arith) (omega arith)
+  halving-points s = pick-holds (λ (h : History). points h ≤ 1) (isWide s) (λ _. omega arith) (λ _. omega arith)
 
   on-points : (o : Outward) (f : End → History) (k : ℕ) → ((short : End) → points (f short) ≤ k) → points (goingOn o f) ≤ k
   unfolding pointsIn
@@ -74,17 +75,18 @@ module _ (ev : Trials) where
     unfolding pointsIn round
     round-points k tried s =
         let place = pr k tried s in
-        pick-points (isInside s place) (onward tried (attempt ev s place) (λ _. halving ev)) (halving ev s) 2
-        (omega (arith, onward-points 1 tried (attempt ev s place) (λ _. halving ev) (λ _ s'. halving-points s')))
-        (omega (arith, halving-points s))
+        pick-holds (λ (h : History). points h ≤ 2) (isInside s place)
+        (λ _. omega (arith, onward-points 1 tried (attempt ev s place) (λ _. halving ev) (λ _ s'. halving-points s')))
+        (λ _. omega (arith, halving-points s))
 
     pub inward-points : (left k : ℕ) (tried : List Point) (s : Pair) → points (inward ev pr left k tried s) ≤ 2 * left
     unfolding pointsIn inward
     inward-points zero k tried s = omega arith
     inward-points (suc left) k tried s =
-        pick-points (isWide s) (onward tried (round ev pr k tried s) (inward ev pr left (k + 1))) (ends (between s)) (2 * suc left)
-        (omega (arith, onward-points (2 * left) tried (round ev pr k tried s) (inward ev pr left (k + 1)) (inward-points left (k + 1)), round-points k tried s))
-        (omega arith)
+        let f = inward ev pr left (k + 1) in
+        pick-holds (λ (h : History). points h ≤ 2 * suc left) (isWide s)
+        (λ _. omega (arith, onward-points (2 * left) tried (round ev pr k tried s) f (inward-points left (k + 1)), round-points k tried s))
+        (λ _. omega arith)
 
     -- "At most 63 rounds, so 41 + 126 = 167 points"
     pub history-points : (first : ℕ) (error : Float) → points (history ev pr first error) ≤ 167

@@ -16,8 +16,8 @@ use Rattle.search_rule.specs.Rule.{Point, Trials, pointAt, Proposal, End
 use Rattle.search_rule.specs.Rule.{endingOf, Sequel, onward, endAt, outwardBy, goingOn, outward, outwardPart, movedBy, attempt, gap, isWide, halfway}
 use Rattle.search_rule.specs.Rule.{halving, isInside, round, inward, history}
 use Rattle.search_rule.specs.RulePromise.{IsShort, outPoint, ShortBefore, AllOutwardShort, FirstNotShort, EndsSo, SomeUnreadable, LastUnreadable}
-use Rattle.search_rule.proofs.Counts.{points}
-use Rattle.search_rule.proofs.Rounds.{NoWider, inward-no-wider, pick-holds, is-short}
+use Rattle.search_rule.proofs.Counts.{points, pick-holds}
+use Rattle.search_rule.proofs.Rounds.{NoWider, inward-no-wider, is-short}
 use Rattle.search_rule.proofs.Reach.{outPoint-zero, outPoint-suc, on-short, history-reached, found}
 
 -- ---- All outward points short.

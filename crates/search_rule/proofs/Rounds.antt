@@ -20,7 +20,7 @@ use Rattle.search_rule.specs.Rule.{Point, Trials, Proposal, Ending, betw
 use Rattle.search_rule.specs.Rule.{Sequel, onward, endAt, movedBy, moved, attempt, gap, isWide, halfway, halving, isInside, round, inward, history}
 use Rattle.search_rule.specs.Rule.{outward, outwardPart, outwardBy, goingOn}
 use Rattle.search_rule.specs.RulePromise.{IsShort, historyIn}
-use Rattle.search_rule.proofs.Counts.{points, onward-points, outward-points, inward-points}
+use Rattle.search_rule.proofs.Counts.{points, onward-points, outward-points, inward-points, pick-holds}
 
 -- An end at which K holds and whose pair, where it is one, is at most g wide.
 abbrev pub NoWider : (Ending → Type 0) → ℕ → Ending → Type 0
@@ -30,10 +30,6 @@ NoWider K g unreadable = K unreadable
 NoWider K g allShort = K allShort
 
 -- ---- Choices, with what their tests say.
-pub pick-holds : (P : History → Type 0) (b : Bool) {x y : History} → (b ≡ true → P x) → (b ≡ false → P y) → P (pick b x y)
-pick-holds P true h g = h refl
-pick-holds P false h g = g refl
-
 both : (a b : Bool) → (a && b) ≡ true → (a ≡ true) × (b ≡ true)
 both true b e = (refl, e)
 both false b e = (e, cc)
