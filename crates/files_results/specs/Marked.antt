@@ -11,11 +11,11 @@ use Rattle.series.specs.Series.{beyondOne, reducedFrom, nested, c4Of, c5Of, atR
 use Rattle.search_points.specs.Residual.{timeErrorOf, radiusOf}
 use Rattle.search_points.specs.Trial.{anomalyAt, sortOf, evaluatedAt, trialAt}
 use Rattle.search_rule.specs.Rule.{onward, outward, halving, round, inward, history, counted}
-use Rattle.search.specs.Search.{searchOf}
+use Rattle.search.specs.Search.{searchBy}
 use Rattle.states_arcs.specs.Results.{factorsOf, endStateOf, arcOf, accelerationOf, resultsOf, figuresOf, endedOf}
 use Rattle.states_start.specs.Given.{readOf}
 use Rattle.states_start.specs.Initial.{dot, begunOf, firstStepOf}
-use Rattle.states.specs.Call.{refused, answered, reachedBy, reachedFrom, reachedOrbit, reachedOf, endedAnswer, propagateOf, answerWords}
+use Rattle.states.specs.Call.{refused, answered, reachedFound, reachedFromBy, reachedOrbitBy, reachedWordsBy, endedAnswer, propagateBy, propagateOf, answerWords}
 use Rattle.files_words.specs.Bytes.{asBytes}
 use Rattle.files_reader.specs.Reader.{readingOf}
 use Rattle.files_results.specs.Requests.{requestWords}
@@ -103,5 +103,5 @@ table =
 
 -- Each case of the table gives what it must.
 pub marked : map (λ (c : Case). given (c .asked)) table ≡ map (λ (c : Case). c .must) table
-unfolding resultFile readingOf rowsOf rowOf requestWords propagateOf answerWords reachedOf reachedOrbit reachedFrom reachedBy endedAnswer answered refused readOf begunOf dot firstStepOf endedOf figuresOf resultsOf accelerationOf arcOf endStateOf factorsOf has firstOf searchOf history inward round halving outward onward counted trialAt evaluatedAt sortOf anomalyAt timeErrorOf radiusOf coefficientsOf sumsOf quotientsOf doublings atReduced c4Of c5Of nested reducedFrom beyondOne rootOf rootWordOf asBytes add sub mul div neg lt eq ne ofBits toBits
+unfolding resultFile readingOf rowsOf rowOf requestWords propagateBy answerWords reachedWordsBy reachedOrbitBy reachedFromBy reachedFound endedAnswer answered refused readOf begunOf dot firstStepOf endedOf figuresOf resultsOf accelerationOf arcOf endStateOf factorsOf has firstOf searchBy history inward round halving outward onward counted trialAt evaluatedAt sortOf anomalyAt timeErrorOf radiusOf coefficientsOf sumsOf quotientsOf doublings atReduced c4Of c5Of nested reducedFrom beyondOne rootOf rootWordOf asBytes add sub mul div neg lt eq ne ofBits toBits
 marked = refl

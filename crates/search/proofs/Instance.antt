@@ -24,7 +24,7 @@ use Rattle.search_proposals.specs.Proposals.{threeProposals}
 use Rattle.search.specs.declared.figures.Finding.{Finding}
 use Rattle.search.specs.declared.figures.Finding.the-variants as finding
 use Rattle.search.specs.Search.{historyBy, findingOf, searchBy, searchOf}
-use Rattle.search.specs.SearchPromise.{IsAnomaly, usedIn, triedBy, triedAt, Says, Searched, Promise}
+use Rattle.search.specs.SearchPromise.{IsAnomaly, usedIn, triedBy, triedAt, Says, Searched, Promise, Demand3}
 
 -- "Place 0 has R = −τ here"; "A place at or above 2047·2^52 is unreadable."
 pub sorts-at : (i : Initial) (tau : Seconds) → Sorts (trialAt i tau) (neg (tau .0))
@@ -100,13 +100,31 @@ module _ (pr : Proposal) (i : Initial) (tau : Seconds) (first : ℕ) where
 
 -- The search keeps its promise, whatever formula proposes the inner points; and so with document 01's.
 pub promise-by : (pr : Proposal) (i : Initial) (tau : Seconds) (h : Anomaly) → Promise pr i tau h (searchBy pr i tau h)
+unfolding searchBy
 promise-by pr i tau h = record { no-interval = λ e. rw e; interval = λ e. rw e (searched pr i tau (placeOf (h .0))) }
 
 pub promise : (i : Initial) (tau : Seconds) (h : Anomaly) → Promise (threeProposals i tau) i tau h (searchOf i tau h)
-unfolding searchOf
 promise i tau h = promise-by (threeProposals i tau) i tau h
 
--- ---- The promise once more, of `searchOf` itself, where tau isn't zero.
+-- ---- Demand 3, of the search, whatever formula proposes the inner points.
+module _ (pr : Proposal) (i : Initial) (tau : Seconds) (h : Anomaly) (interval : eq (tau .0) n0 ≡ false) where
+  pub demand3-by : Findable (trialAt i tau) (placeOf (h .0)) → Demand3 pr i tau h (searchBy pr i tau h)
+  demand3-by f =
+      let kept = promise-by pr i tau h .interval interval in
+      let x = kept .finds f in
+      let y = subst (Says pr i tau (placeOf (h .0))) (x .1) (kept .says) in
+      let n = usedIn (searchBy pr i tau h) in
+      record {
+        place = y .0;
+        points = n;
+        found = x .1 ∙ ap (λ (psi : Anomaly). finding.Found psi n) (y .1);
+        anomaly = y .2;
+        used = kept .counts;
+        at-most = omega (arith, kept .at-most);
+        sharper = kept .at-most;
+      }
+
+-- ---- The promise once more, of document 01's search itself, where tau isn't zero.
 module _ (i : Initial) (tau : Seconds) (h : Anomaly) (interval : eq (tau .0) n0 ≡ false) where
   abbrev points : List Point
   points = triedAt i tau (placeOf (h .0))
@@ -114,15 +132,8 @@ module _ (i : Initial) (tau : Seconds) (h : Anomaly) (interval : eq (tau .0) n0 
   kept : Searched (threeProposals i tau) i tau (placeOf (h .0)) (searchOf i tau h)
   kept = promise i tau h .interval interval
 
-  -- Demand 3: "if some of the 41 outward points isn't short and no double up to the first such point is unreadable, an anomaly is found, exact or short
-  -- with the very next double past".
-  pub demand3 : Findable (trialAt i tau) (placeOf (h .0))
-      → (p n : ℕ) × (searchOf i tau h ≡ finding.Found (anomalyAt tau p) n) × IsAnomaly i tau p × (n ≡ length points) × (n ≤ 145)
-  demand3 f =
-      let x = kept .finds f in
-      let y = subst (Says (threeProposals i tau) i tau (placeOf (h .0))) (x .1) (kept .says) in
-      let n = usedIn (searchOf i tau h) in
-      (y .0, n, x .1 ∙ ap (λ (psi : Anomaly). finding.Found psi n) (y .1), y .2, kept .counts, kept .at-most)
+  pub demand3 : Findable (trialAt i tau) (placeOf (h .0)) → Demand3 (threeProposals i tau) i tau h (searchOf i tau h)
+  demand3 = demand3-by (threeProposals i tau) i tau h interval
 
   -- Refusal 5, with 41 points.
   pub refusal5 : ((n : ℕ) × (searchOf i tau h ≡ finding.AllShort n)) ↔ AllOutwardShort (trialAt i tau) (placeOf (h .0))

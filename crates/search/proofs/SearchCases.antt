@@ -18,7 +18,7 @@ use Rattle.search_points.specs.Trial.{anomalyAt, sortOf, evaluatedAt, trialAt}
 use Rattle.search_rule.specs.Rule.{between, exact, unreadable, allShort, History, tries, ends, onward, outward, halving, inward, history}
 use Rattle.search_rule.specs.Rule as rule
 use Rattle.search_proposals.specs.Proposals.{offeredAt, byRadius, byInterval, byEnds, proposed}
-use Rattle.search.specs.Search.{historyAt, searchOf}
+use Rattle.search.specs.Search.{historyAt, searchBy, searchOf}
 
 -- Figures by their words.
 abbrev number : ℕ → Float
@@ -38,7 +38,7 @@ found psi points = finding.Found (anomaly psi) points
 
 -- "If τ is either zero, ψ = +0 with no trial points."
 pub no-interval : (i : Initial) (h : Anomaly) → (searchOf i (seconds 0) h ≡ found 0 0) × (searchOf i (seconds 0x8000000000000000) h ≡ found 0 0)
-unfolding ofBits eq searchOf
+unfolding ofBits eq searchBy
 no-interval i h = (refl, refl)
 
 -- A point: its place, and its sort with the word of its time error.

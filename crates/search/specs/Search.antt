@@ -39,11 +39,15 @@ findingOf tau (Unreadable n) = finding.Unreadable n
 findingOf tau (AllShort n) = finding.AllShort n
 
 -- "If τ is either zero, ψ = +0 with no trial points."
-abbrev pub searchBy : Proposal → Initial → Seconds → (h : Anomaly) → Finding
+unfoldable pub searchBy : Proposal → Initial → Seconds → (h : Anomaly) → Finding
 searchBy pr i tau h =
     pick (eq (tau .0) n0)
     (finding.Found (record { 0 = n0 }) 0)
     (findingOf tau (counted 0 (historyBy pr i tau (placeOf (h .0)))))
 
-unfoldable pub searchOf : Initial → Seconds → (h : Anomaly) → Finding
+abbrev pub searchOf : Initial → Seconds → (h : Anomaly) → Finding
 searchOf i tau h = searchBy (threeProposals i tau) i tau h
+
+-- A formula that proposes the inner points, at the initial figures of a state and an interval; `threeProposals` is document 01's.
+abbrev pub Proposing : Type 0
+Proposing = Initial → Seconds → Proposal

@@ -56,3 +56,14 @@ pub record Searched (pr : Proposal) (i : Initial) (tau : Seconds) (first : ℕ) 
 pub record Promise (pr : Proposal) (i : Initial) (tau : Seconds) (h : Anomaly) (a : Finding) : Type 0 where
   pub no-interval : eq (tau .0) n0 ≡ true → a ≡ finding.Found (record { 0 = n0 }) 0
   pub interval : eq (tau .0) n0 ≡ false → Searched pr i tau (placeOf (h .0)) a
+
+-- Demand 3, of the search: "an anomaly is found. Its computed time error is zero, or it is short of the time while the very next double outward is past it. At most
+-- 167 trial points are spent, and the reported number is how many the search used." That is `at-most`; the places give a sharper bound, which is ours.
+pub record Demand3 (pr : Proposal) (i : Initial) (tau : Seconds) (h : Anomaly) (a : Finding) : Type 0 where
+  pub place : ℕ
+  pub points : ℕ
+  pub found : a ≡ finding.Found (anomalyAt tau place) points
+  pub anomaly : IsAnomaly i tau place
+  pub used : points ≡ length (triedBy pr i tau (placeOf (h .0)))
+  pub at-most : points ≤ 167
+  pub sharper : points ≤ 145

@@ -10,10 +10,13 @@ use lib.Dec.{eqb}
 use lib.ListN.{length}
 use Rattle.bits.specs.Choice.{pick}
 use Rattle.bits.specs.Words.{wordsOf}
-use Rattle.search.specs.Search.{searchOf}
+use Rattle.search.specs.Search.{Proposing, searchBy}
+use Rattle.series.specs.declared.figures.Anomaly.{Anomaly}
+use Rattle.series.specs.declared.figures.Seconds.{Seconds}
 use Rattle.search_points.specs.Trial.{anomalyAt}
 use Rattle.search.specs.declared.figures.Finding.{Finding}
-use Rattle.search.proofs.Instance.{demand3}
+use Rattle.search.specs.SearchPromise.{Demand3}
+use Rattle.search.proofs.Instance.{demand3-by}
 use Rattle.states_arcs.specs.Results.{arcOf, resultsOf, endedOf}
 use Rattle.states_arcs.specs.declared.figures.Arc.{Arc}
 use Rattle.states_arcs.specs.declared.figures.Results.{Results}
@@ -25,9 +28,10 @@ use Rattle.states_partials.proofs.EntryLaws.{zero-or-eight}
 use Rattle.states_partials.specs.Partials.{partialsRefusal, lentAfter}
 use Rattle.states_start.specs.Initial.{firstStepOf}
 use Rattle.states_start.specs.declared.figures.Begun.{Begun}
-use Rattle.states.specs.Call.{noResults, refused, answered, reachedBy, reachedFrom, reachedBegun, reachedOrbit, reachedRead, reachedOf, endedAnswer, answerBy, propagateOf}
-use Rattle.states.specs.WithPartials.{withPartials, endedWith, lentEnded, partialsBy, lentBy, partialsOf, lentOf}
-use Rattle.states.specs.CallPromise.{ZerosOrAnswer, UnchangedOrAnswer, Searches, FindsAnomaly}
+use Rattle.states_start.specs.declared.figures.Start.{Start}
+use Rattle.states.specs.Call.{noResults, refused, answered, reachedFound, reachedFromBy, reachedBegunBy, reachedOrbitBy, reachedReadBy, reachedWordsBy, endedAnswer, answerFrom, propagateBy}
+use Rattle.states.specs.WithPartials.{withPartials, endedWith, lentEnded, partialsFrom, lentFrom, partialsBy, lentBy}
+use Rattle.states.specs.CallPromise.{ZerosOrAnswer, UnchangedOrAnswer, Searches, Reports, FindsAnomaly}
 use Rattle.states.specs.declared.figures.Reached.{Reached}
 use Rattle.states.specs.declared.figures.Reached.the-variants as reached
 use Rattle.states.specs.declared.figures.Answer.{Answer}
@@ -49,13 +53,13 @@ unfolding endedAnswer
 ended-clean n (ended.Results r) = answered-clean n r
 ended-clean n (ended.Refused k) = refused-clean k n
 
-by-clean : (x : Reached) → Clean (answerBy x)
+by-clean : (x : Reached) → Clean (answerFrom x)
 by-clean (reached.End arc n) = ended-clean n (endedOf arc)
 by-clean (reached.Refused k n) = refused-clean k n
 
 pub zeros-or-answer : ZerosOrAnswer
-unfolding propagateOf
-zeros-or-answer words = by-clean (reachedOf words)
+unfolding propagateBy
+zeros-or-answer pr words = by-clean (reachedWordsBy pr words)
 
 -- With the lent run beside it.
 abbrev Kept : Answer → (run after : List ℕ) → Type 0
@@ -75,30 +79,32 @@ unfolding withPartials lentAfter
 ended-kept arc n (ended.Results r) run = pick-kept (eqb (partialsRefusal arc run) 0) (partialsRefusal arc run) n r run (wordsOf (entriesOf arc))
 ended-kept arc n (ended.Refused k) run = refused-kept k n run
 
-by-kept : (x : Reached) (run : List ℕ) → Kept (partialsBy x run) run (lentBy x run)
+by-kept : (x : Reached) (run : List ℕ) → Kept (partialsFrom x run) run (lentFrom x run)
 by-kept (reached.End arc n) run = ended-kept arc n (endedOf arc) run
 by-kept (reached.Refused k n) run = refused-kept k n run
 
-length-kept : (t : Bool) (x : Reached) (run : List ℕ) → Kept (pick t (refused 1 0) (partialsBy x run)) run (pick t run (lentBy x run))
+length-kept : (t : Bool) (x : Reached) (run : List ℕ) → Kept (pick t (refused 1 0) (partialsFrom x run)) run (pick t run (lentFrom x run))
 length-kept true x run = refused-kept 1 0 run
 length-kept false x run = by-kept x run
 
 pub unchanged-or-answer : UnchangedOrAnswer
-unfolding partialsOf lentOf
-unchanged-or-answer words run = length-kept (not (eqb (length run) 36)) (reachedOf words) run
+unfolding partialsBy lentBy
+unchanged-or-answer pr words run = length-kept (not (eqb (length run) 36)) (reachedWordsBy pr words) run
 
 -- ---- Demand 3
 
 -- Where the search found ψ, the call goes on from its arc.
-reaches : (words : List ℕ) (s : Searches words) {x : Finding} → searchOf (s .start .initial) (s .tau) (firstStepOf (s .start .initial) (s .tau)) ≡ x
-    → reachedOf words ≡ reachedBy (s .start) (s .tau) x
-unfolding reachedOf reachedOrbit reachedFrom
-reaches words s e =
+reaches : (pr : Proposing) (words : List ℕ) (s : Searches words) {x : Finding} →
+    searchBy (pr (s .start .initial) (s .tau)) (s .start .initial) (s .tau) (firstStepOf (s .start .initial) (s .tau)) ≡ x →
+    reachedWordsBy pr words ≡ reachedFound (s .start) (s .tau) x
+unfolding reachedWordsBy reachedOrbitBy reachedFromBy
+reaches pr words s e =
     let start = s .start in
     let tau = s .tau in
-    ap reachedRead (s .reads) ∙ ap (λ (b : Begun). reachedBegun b tau) (s .begins)
-    ∙ ap (λ (t : Bool). pick (not t) (reached.Refused 4 0) (reachedBy start tau (searchOf (start .initial) tau (firstStepOf (start .initial) tau)))) (s .steps)
-    ∙ ap (reachedBy start tau) e
+    let found = searchBy (pr (start .initial) tau) (start .initial) tau (firstStepOf (start .initial) tau) in
+    ap (reachedReadBy pr) (s .reads) ∙ ap (λ (b : Begun). reachedBegunBy pr b tau) (s .begins)
+    ∙ ap (λ (t : Bool). pick (not t) (reached.Refused 4 0) (reachedFound start tau found)) (s .steps)
+    ∙ ap (reachedFound start tau) e
 
 -- The results of an arc, or 7 or 8.
 abbrev SevenOrEight : Ended → Results → Type 0
@@ -124,27 +130,41 @@ settled-with arc n e r run h (inl p) =
 settled-with arc n e r run h (inr (inl p)) = inr (inl (ap (λ (x : Ended). endedWith arc n x run) p))
 settled-with arc n e r run h (inr (inr p)) = inr (inr (ap (λ (x : Ended). endedWith arc n x run) p))
 
+psi-of : (s : Start) (tau : Seconds) (psi : Anomaly) → resultsOf (arcOf s tau psi) .psi ≡ psi
+unfolding resultsOf arcOf
+psi-of s tau psi = refl
+
+-- A settled answer reports the points, and its ψ is that of the results.
+settled-points : (a : Answer) (n : ℕ) (r : Results) → Settled a n r → a .points ≡ n
+unfolding answered refused
+settled-points a n r (inl e) = ap (λ (x : Answer). x .points) e
+settled-points a n r (inr (inl e)) = ap (λ (x : Answer). x .points) e
+settled-points a n r (inr (inr e)) = ap (λ (x : Answer). x .points) e
+
+settled-psi : (a : Answer) (n : ℕ) (r : Results) → Settled a n r → a .refusal ≡ 0 → a .results .psi ≡ r .psi
+unfolding answered refused
+settled-psi a n r (inl e) z = ap (λ (x : Answer). x .results .psi) e
+settled-psi a n r (inr (inl e)) z = absurd (omega (arith, ap (λ (x : Answer). x .refusal) e))
+settled-psi a n r (inr (inr e)) z = absurd (omega (arith, ap (λ (x : Answer). x .refusal) e))
+
+reports : {pr : Proposing} {s : Start} {tau : Seconds} {f : Finding} {a : Answer} (d : Demand3 (pr (s .initial) tau) (s .initial) tau (firstStepOf (s .initial) tau) f) →
+    Settled a (d .points) (resultsOf (arcOf s tau (anomalyAt tau (d .place)))) → Reports pr s tau a
+reports {s = s} {tau = tau} {a = a} d settled =
+    let r = resultsOf (arcOf s tau (anomalyAt tau (d .place))) in
+    record {
+      at = record { place = d .place; points = d .points; anomaly = d .anomaly; used = d .used; at-most = d .at-most; answer = settled };
+      reported = settled-points a (d .points) r settled;
+      psi = λ z. settled-psi a (d .points) r settled z ∙ psi-of s tau (anomalyAt tau (d .place));
+    }
+
 pub finds-anomaly : FindsAnomaly
-unfolding reachedBy propagateOf partialsOf
-finds-anomaly words s nonzero findable =
+unfolding reachedFound propagateBy partialsBy
+finds-anomaly pr words s nonzero findable =
     let tau = s .tau in
-    let d = demand3 (s .start .initial) tau (firstStepOf (s .start .initial) tau) nonzero findable in
-    let arc = arcOf (s .start) tau (anomalyAt tau (d .0)) in
-    let x : reachedOf words ≡ reached.End arc (d .1) = reaches words s (d .2) in (
-      record {
-        place = d .0;
-        points = d .1;
-        anomaly = d .3;
-        used = d .4;
-        at-most = omega (arith, d .5);
-        answer = rw x (settled (d .1) (endedOf arc) (resultsOf arc) (seven-or-eight arc));
-      },
-      λ run h. record {
-        place = d .0;
-        points = d .1;
-        anomaly = d .3;
-        used = d .4;
-        at-most = omega (arith, d .5);
-        answer = rw (eq-eqb (length run) 36 h, x) (settled-with arc (d .1) (endedOf arc) (resultsOf arc) run h (seven-or-eight arc));
-      },
+    let i = s .start .initial in
+    let d = demand3-by (pr i tau) i tau (firstStepOf i tau) nonzero findable in
+    let arc = arcOf (s .start) tau (anomalyAt tau (d .place)) in
+    let x : reachedWordsBy pr words ≡ reached.End arc (d .points) = reaches pr words s (d .found) in (
+      reports d (rw x (settled (d .points) (endedOf arc) (resultsOf arc) (seven-or-eight arc))),
+      λ run h. reports d (rw (eq-eqb (length run) 36 h, x) (settled-with arc (d .points) (endedOf arc) (resultsOf arc) run h (seven-or-eight arc))),
     )

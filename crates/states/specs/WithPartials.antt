@@ -5,6 +5,8 @@ use Prim.Native.Nat.{ℕ}
 use lib.Dec.{eqb}
 use lib.ListN.{length}
 use Rattle.bits.specs.Choice.{pick}
+use Rattle.search_proposals.specs.Proposals.{threeProposals}
+use Rattle.search.specs.Search.{Proposing}
 use Rattle.states_arcs.specs.Results.{endedOf}
 use Rattle.states_arcs.specs.declared.figures.Arc.{Arc}
 use Rattle.states_arcs.specs.declared.figures.Results.{Results}
@@ -14,7 +16,7 @@ use Rattle.states_partials.specs.Partials.{partialsRefusal, lentAfter}
 use Rattle.states.specs.declared.figures.Reached.{Reached}
 use Rattle.states.specs.declared.figures.Reached.the-variants as reached
 use Rattle.states.specs.declared.figures.Answer.{Answer}
-use Rattle.states.specs.Call.{refused, answered, reachedOf}
+use Rattle.states.specs.Call.{refused, answered, reachedWordsBy}
 
 -- The answer, and what the lent run holds afterwards. Where nothing else is refused, refusal 8 by the partials' own divisors and figures.
 unfoldable pub withPartials : Arc → (points : ℕ) → Results → List ℕ → Answer
@@ -28,17 +30,24 @@ abbrev pub lentEnded : Arc → Ended → List ℕ → List ℕ
 lentEnded arc (ended.Refused k) run = run
 lentEnded arc (ended.Results r) run = lentAfter arc run
 
-abbrev pub partialsBy : Reached → List ℕ → Answer
-partialsBy (reached.Refused k n) run = refused k n
-partialsBy (reached.End arc n) run = endedWith arc n (endedOf arc) run
+abbrev pub partialsFrom : Reached → List ℕ → Answer
+partialsFrom (reached.Refused k n) run = refused k n
+partialsFrom (reached.End arc n) run = endedWith arc n (endedOf arc) run
 
-abbrev pub lentBy : Reached → List ℕ → List ℕ
-lentBy (reached.Refused k n) run = run
-lentBy (reached.End arc n) run = lentEnded arc (endedOf arc) run
+abbrev pub lentFrom : Reached → List ℕ → List ℕ
+lentFrom (reached.Refused k n) run = run
+lentFrom (reached.End arc n) run = lentEnded arc (endedOf arc) run
 
 -- Refusal 1, before all others: "partials are asked for and the lent run isn't exactly 36 long".
-unfoldable pub partialsOf : List ℕ → List ℕ → Answer
-partialsOf words run = pick (not (eqb (length run) 36)) (refused 1 0) (partialsBy (reachedOf words) run)
+unfoldable pub partialsBy : Proposing → List ℕ → List ℕ → Answer
+partialsBy pr words run = pick (not (eqb (length run) 36)) (refused 1 0) (partialsFrom (reachedWordsBy pr words) run)
 
-unfoldable pub lentOf : List ℕ → List ℕ → List ℕ
-lentOf words run = pick (not (eqb (length run) 36)) run (lentBy (reachedOf words) run)
+unfoldable pub lentBy : Proposing → List ℕ → List ℕ → List ℕ
+lentBy pr words run = pick (not (eqb (length run) 36)) run (lentFrom (reachedWordsBy pr words) run)
+
+-- The same by the three proposals of document 01.
+abbrev pub partialsOf : List ℕ → List ℕ → Answer
+partialsOf = partialsBy threeProposals
+
+abbrev pub lentOf : List ℕ → List ℕ → List ℕ
+lentOf = lentBy threeProposals

@@ -1,6 +1,6 @@
 // The call without partials, and what the two calls share: refusals in order of checking, and the answer.
 ghost use mathlib.Core.Path.{_≡_};
-ghost use Rattle.states.specs.Call.{refused, answered, reachedBy, reachedFrom, reachedOrbit, reachedOf, endedAnswer, propagateOf};
+ghost use Rattle.states.specs.Call.{refused, answered, reachedFound, reachedFrom, reachedOrbit, reachedOf, endedAnswer, propagateOf};
 use super::figures::Answer;
 use super::figures::Reached;
 use series::Anomaly;
@@ -53,7 +53,7 @@ pub fn answered_with(points: u64, results: Results) -> Answer
 
 // What a search of the interval reaches from a start: refusals 5 and 6, or the arc of the found anomaly.
 fn reached_by(start: Start, tau: Seconds, found: search::Finding) -> Reached
-    ensures { λ r. ⌜ r ≡ reachedBy start tau found ⌝ }
+    ensures { λ r. ⌜ r ≡ reachedFound start tau found ⌝ }
 {
     match found {
         search::Finding::Found { psi, points } => {

@@ -1,6 +1,6 @@
 -- Where H is finite, what the search found leads on.
 use borrow.Author.Needs.{needs}
-use Rattle.states.specs.Call.{reachedFrom}
+use Rattle.states.specs.Call.{reachedFrom, reachedFromBy}
 use Rattle.states.proofs.call.reach_from.Statement.{statement}
 use Rattle.states.proofs.call.reach_from.Tie as tie
 
@@ -11,7 +11,7 @@ is-finite-requires : tie.Need-is-finite-requires
 is-finite-requires c κs = search needs
 
 returns : tie.Need-returns
-unfolding reachedFrom
+unfolding reachedFromBy
 returns c = simp (← (c .before .before .first-step .ensures), ← (c .before .is-finite .ensures), c .if1 .taken)
 
 search-requires : tie.Need-search-requires
@@ -21,7 +21,7 @@ reached-by-requires : tie.Need-reached-by-requires
 reached-by-requires c κs = search needs
 
 returns-2 : tie.Need-returns-2
-unfolding reachedFrom
+unfolding reachedFromBy
 returns-2 c =
     let h = c .before .before .before in
     simp (← (h .before .first-step .ensures), ← (h .is-finite .ensures), c .before .before .if1 .left, ← (c .before .search .ensures)) (c .reached-by .ensures)

@@ -2,7 +2,7 @@
 use mathlib.Core.Path.{sym, _∙_, ap}
 use borrow.Author.Needs.{needs}
 use Rattle.states_start.specs.declared.figures.Begun.{Begun}
-use Rattle.states.specs.Call.{reachedOrbit, reachedBegun}
+use Rattle.states.specs.Call.{reachedOrbit, reachedBegun, reachedOrbitBy}
 use Rattle.states.proofs.call.reach_orbit.Statement.{statement}
 use Rattle.states.proofs.call.reach_orbit.Tie as tie
 
@@ -19,13 +19,13 @@ enum-known-refusal : tie.Need-enum-known-refusal
 enum-known-refusal c = search needs
 
 returns : tie.Need-returns
-unfolding reachedOrbit
+unfolding reachedOrbitBy
 returns c =
     let s = c .before .before .before .before in
     c .reach-from .ensures ∙ ap (λ (b : Begun). reachedBegun b (s .before .args .tau)) (sym (c .before .before .start .given .1) ∙ s .start-of .ensures)
 
 returns-2 : tie.Need-returns-2
-unfolding reachedOrbit
+unfolding reachedOrbitBy
 returns-2 c =
     let s = c .before .before .before in
     ap (λ (b : Begun). reachedBegun b (s .before .args .tau)) (sym (c .before .refusal .given .1) ∙ s .start-of .ensures)

@@ -1,6 +1,6 @@
 -- Each arm is the definition at the end of the search that the match showed.
 use borrow.Author.Needs.{needs}
-use Rattle.states.specs.Call.{reachedBy}
+use Rattle.states.specs.Call.{reachedFound}
 use Rattle.states.proofs.call.reached_by.Statement.{statement}
 use Rattle.states.proofs.call.reached_by.Tie as tie
 
@@ -17,15 +17,15 @@ enum-known-found-3 : tie.Need-enum-known-found-3
 enum-known-found-3 c = search needs
 
 returns : tie.Need-returns
-unfolding reachedBy
+unfolding reachedFound
 returns c = simp (c .before .before .found .given .1, c .arc-at .ensures)
 
 returns-2 : tie.Need-returns-2
-unfolding reachedBy
+unfolding reachedFound
 returns-2 c = simp (c .before .found2 .given .1)
 
 returns-3 : tie.Need-returns-3
-unfolding reachedBy
+unfolding reachedFound
 returns-3 c = simp (c .before .found3 .given .1)
 
 pub reached-by-spec : {M : Type 1} → statement M

@@ -9,25 +9,25 @@ use lib.ListN.{length}
 use Rattle.bits.specs.Choice.{pick}
 use Rattle.states.specs.declared.figures.Reached.{Reached}
 use Rattle.states.specs.Call.{refused, reachedOf}
-use Rattle.states.specs.WithPartials.{partialsBy, lentBy, partialsOf, lentOf}
+use Rattle.states.specs.WithPartials.{partialsFrom, lentFrom, partialsOf, lentOf, partialsBy, lentBy}
 use Rattle.states.proofs.partials.propagate_with_partials.Statement.{statement}
 use Rattle.states.proofs.partials.propagate_with_partials.Tie as tie
 
 module _ (words run : List ℕ) where
   wrong-length : (length run ≡ 36 → ⊥) → (refused 1 0 ≡ partialsOf words run) × (run ≡ lentOf words run)
-  unfolding partialsOf lentOf
+  unfolding partialsBy lentBy
   wrong-length h =
       let e = sym (ne-eqb (length run) 36 h) in (
-        ap (λ (t : Bool). pick (not t) (refused 1 0) (partialsBy (reachedOf words) run)) e,
-        ap (λ (t : Bool). pick (not t) run (lentBy (reachedOf words) run)) e,
+        ap (λ (t : Bool). pick (not t) (refused 1 0) (partialsFrom (reachedOf words) run)) e,
+        ap (λ (t : Bool). pick (not t) run (lentFrom (reachedOf words) run)) e,
       )
 
-  right-length : length run ≡ 36 → {x : Reached} → x ≡ reachedOf words → (partialsBy x run ≡ partialsOf words run) × (lentBy x run ≡ lentOf words run)
-  unfolding partialsOf lentOf
+  right-length : length run ≡ 36 → {x : Reached} → x ≡ reachedOf words → (partialsFrom x run ≡ partialsOf words run) × (lentFrom x run ≡ lentOf words run)
+  unfolding partialsBy lentBy
   right-length h p =
       let e = sym (eq-eqb (length run) 36 h) in (
-        ap (λ (y : Reached). partialsBy y run) p ∙ ap (λ (t : Bool). pick (not t) (refused 1 0) (partialsBy (reachedOf words) run)) e,
-        ap (λ (y : Reached). lentBy y run) p ∙ ap (λ (t : Bool). pick (not t) run (lentBy (reachedOf words) run)) e,
+        ap (λ (y : Reached). partialsFrom y run) p ∙ ap (λ (t : Bool). pick (not t) (refused 1 0) (partialsFrom (reachedOf words) run)) e,
+        ap (λ (y : Reached). lentFrom y run) p ∙ ap (λ (t : Bool). pick (not t) run (lentFrom (reachedOf words) run)) e,
       )
 
 refused-with-requires : tie.Need-refused-with-requires
