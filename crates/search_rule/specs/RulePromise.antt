@@ -39,17 +39,20 @@ pub record FirstNotShort (ev : Trials) (first n k : ℕ) : Type 0 where
   pub shorts : ShortBefore ev first k
   pub not-short : IsShort (ev (outPoint first k) .sort) → ⊥
 
--- ---- Demand 3: "if some of the 41 outward points isn't short and no double up to the first such point is unreadable, an anomaly is found, exact or short
--- with the very next double past; .. whatever formula proposes the inner points."
+-- ---- Demand 3: "If some of the 41 outward trial points isn't short of the time, and no double from zero to the first such point is unreadable, an anomaly is
+-- found. Its computed time error is zero, or it is short of the time while the very next double outward is past it. .. All but the number's exact size must hold
+-- whatever formula proposes the inner points, one a round."
 
 -- No place up to p is unreadable.
 abbrev pub ReadableUpTo : Trials → ℕ → Type 0
 ReadableUpTo ev p = (q : ℕ) → q ≤ p → ev q .sort ≡ Unreadable → ⊥
 
--- Its premise: some outward point isn't short, and no place up to the first such point is unreadable.
+-- Its premise.
 pub record Findable (ev : Trials) (first : ℕ) : Type 0 where
   pub k : ℕ
+  -- "some of the 41 outward trial points isn't short of the time": the k-th is the first.
   pub first-not-short : FirstNotShort ev first 41 k
+  -- "no double from zero to the first such point is unreadable"
   pub readable : ReadableUpTo ev (outPoint first k)
 
 -- An end of a pair is what it says.

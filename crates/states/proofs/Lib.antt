@@ -1,3 +1,4 @@
 -- What both calls promise, kept; and what each public function leaves open.
 pub mod CallPromise
+pub mod PremiseMet
 pub mod OneAnswers

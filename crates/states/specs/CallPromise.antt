@@ -39,8 +39,11 @@ pub record Searches (words : List ℕ) : Type 0 where
   pub orbit : Orbit
   pub tau : Seconds
   pub start : Start
+  -- Not refused by 2.
   pub reads : readOf words ≡ read.Orbit orbit tau
+  -- Not by 3, nor by 4 but for H.
   pub begins : begunOf orbit ≡ begun.Start start
+  -- Nor for H.
   pub steps : isFinite (firstStepOf (start .initial) tau .0) ≡ true
 
 -- The place of |H|, from which it searches.

@@ -1,0 +1,51 @@
+-- The premises of demand 3 can be met: P10 of document 01 passes refusals 1 to 4, its time isn't zero, and an anomaly can be found. So one is, whatever proposes.
+use Prim.Native.Nat.{ℕ}
+use mathlib.Core.Path.{_≡_, refl, sym, subst}
+use mathlib.Core.Bool.{true, false}
+use mathlib.Core.List.{List, [], _∷_}
+use lib.Ieee.{binary64, add, sub, mul, div, eq, ofBits, toBits}
+use Rattle.bits.specs.Arithmetic.{n0, n1}
+use Rattle.bits.specs.Runs.{firstOf, has}
+use Rattle.bits.specs.Root.{rootWordOf, rootOf}
+use Rattle.search.specs.Search.{Proposing}
+use Rattle.search.proofs.Witness.{placeOfH, findable}
+use Rattle.search_points.proofs.AtRest.{atRest, oneSecond}
+use Rattle.search_points.specs.Trial.{trialAt}
+use Rattle.search_rule.specs.RulePromise.{Findable}
+use Rattle.states_start.specs.Given.{readOf}
+use Rattle.states_start.specs.Initial.{dot, begunOf, firstStepOf}
+use Rattle.states_start.specs.declared.figures.Vector.{Vector}
+use Rattle.states_start.specs.declared.figures.Orbit.{Orbit}
+use Rattle.states_start.specs.declared.figures.Start.{Start}
+use Rattle.states.specs.Call.{propagateBy}
+use Rattle.states.specs.CallPromise.{Searches, Reports, firstPlace}
+use Rattle.states.proofs.CallPromise.{finds-anomaly}
+
+-- "μ = 0, position (1,0,0), at rest, τ = 1"
+abbrev pub p10 : List ℕ
+p10 = 0 ∷ 0x3ff0000000000000 ∷ 0 ∷ 0 ∷ 0 ∷ 0 ∷ 0 ∷ 0x3ff0000000000000 ∷ []
+
+abbrev vector : ℕ → Vector
+vector x = record { x = ofBits binary64 x; y = ofBits binary64 0; z = ofBits binary64 0 }
+
+abbrev orbit : Orbit
+orbit = record { mu = n0; state = record { position = vector 0x3ff0000000000000; velocity = vector 0 } }
+
+abbrev start : Start
+start = record { state = orbit .state; initial = atRest }
+
+pub p10-searches : Searches p10
+unfolding readOf firstOf has dot begunOf firstStepOf rootWordOf rootOf add sub mul div eq ofBits toBits
+p10-searches = record { orbit = orbit; tau = oneSecond; start = start; reads = refl; begins = refl; steps = refl }
+
+first-place : firstPlace start oneSecond ≡ placeOfH
+unfolding firstStepOf mul div ofBits toBits
+first-place = refl
+
+nonzero : eq (oneSecond .0) n0 ≡ false
+unfolding eq ofBits
+nonzero = refl
+
+pub p10-found : (pr : Proposing) → Reports pr start oneSecond (propagateBy pr p10)
+unfolding p10-searches
+p10-found pr = finds-anomaly pr p10 p10-searches nonzero (subst (Findable (trialAt atRest oneSecond)) (sym first-place) findable) .0
