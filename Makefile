@@ -39,7 +39,7 @@ export RT_JOBS = 4
 # One step at a time, in the order written: what is cheap to find wrong comes before what takes minutes.
 .NOTPARALLEL:
 .PHONY: run state check test wrong fuzz bench program command lib install install-files uninstall clean
-.PHONY: kit layout map proved prefix machine header edition readme refusals selfcheck installed tried
+.PHONY: kit layout map proved prefix machine header edition readme refusals selfcheck installed tried commanded
 
 # What make run shows.
 ELEMENTS = examples/orbits.elements
@@ -58,7 +58,7 @@ state: command
 check: layout map test
 	@rt ci
 
-test: machine header proved program edition readme refusals selfcheck installed build/host/example tried $(TESTS)
+test: machine header proved program edition readme refusals selfcheck installed build/host/example tried commanded $(TESTS)
 	@sh tests/run.sh $(TESTS)
 
 wrong: kit
@@ -174,6 +174,9 @@ installed: machine lib program command build/tests/second_results
 tried: machine program command build/tests/second_results
 	@sh tests/program.sh
 
+commanded: machine command build/tests/kelubashi_faulty build/tests/second_results
+	@sh tests/command.sh 'over the library' 'sh tests/machine.sh run build/kelubashi' 'sh tests/machine.sh run build/tests/kelubashi_faulty'
+
 SECOND = $(patsubst %,build/tests/second/%.o,root series search states files)
 TRACED = $(SECOND:build/tests/second/%=build/tests/traced/%)
 SELFTEST = $(patsubst %,build/tests/second/selftest%.o,_root _calls _orbits _files)
@@ -186,6 +189,12 @@ build/host/%: STRICT += -Wconversion
 
 build/kelubashi: $(COMMAND) machine lib
 	@$(X86) compile $(STRICT) -o $@ $(COMMAND) build/libkelubashi.a
+
+# The same, with faults of the machine before the system's calls.
+WRAPPED = $(patsubst %,-Wl$(comma)--wrap=%,rename fsync close fchmod write read)
+comma = ,
+build/tests/kelubashi_faulty: $(COMMAND) build/tests/command_faults.o machine lib
+	@$(X86) compile $(STRICT) $(WRAPPED) -o $@ $(COMMAND) build/tests/command_faults.o build/libkelubashi.a
 
 build/host/example: build/host/kelubashi_selfcheck.o
 build/tests/case_files: build/tests/expected.o
