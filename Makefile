@@ -39,7 +39,7 @@ export RT_JOBS = 4
 # One step at a time, in the order written: what is cheap to find wrong comes before what takes minutes.
 .NOTPARALLEL:
 .PHONY: run state check test wrong fuzz bench program command lib install install-files uninstall clean
-.PHONY: kit layout map proved prefix machine header edition readme refusals selfcheck installed tried commanded
+.PHONY: kit layout map proved prefix machine header edition readme refusals selfcheck facts installed tried commanded sanitized
 
 # What make run shows.
 ELEMENTS = examples/orbits.elements
@@ -58,7 +58,7 @@ state: command
 check: layout map test
 	@rt ci
 
-test: machine header proved program edition readme refusals selfcheck installed build/host/example tried commanded $(TESTS)
+test: machine header proved program edition readme refusals selfcheck facts installed build/host/example tried commanded sanitized $(TESTS)
 	@sh tests/run.sh $(TESTS)
 
 wrong: kit
@@ -68,6 +68,7 @@ fuzz: machine $(FUZZ)
 	@echo 'fuzz: $(if $(INPUT),$(INPUT),$(N) inputs of seed $(SEED) each, from number $(FIRST) on), to: $(strip $(FUZZ))'
 	@for test in $(filter-out $(GUIDED),$(FUZZ)); do $(X86) run "$$test" $(N) $(SEED) $(FIRST) || exit 1; done
 	@for test in $(filter $(GUIDED),$(FUZZ)); do $(X86) run "$$test" $(or $(INPUT),$(N) $(SEED)) || exit 1; done
+	@$(if $(INPUT)$(filter-out $(COMPARISONS) $(GUIDED),$(FUZZ)),,sh tests/sanitize.sh fuzz $(N) $(SEED) $(FIRST))
 
 bench: machine $(BENCH:%=build/bench/%)
 	@sh bench/run.sh $(BENCH)
@@ -165,6 +166,9 @@ readme: machine lib
 refusals: machine lib
 	@sh tests/refusals.sh
 
+facts: machine lib program build/tests/facts build/tests/stack
+	@sh tests/facts.sh
+
 selfcheck: machine lib command
 	@sh tests/selfcheck.sh
 
@@ -173,6 +177,10 @@ installed: machine lib program command build/tests/second_results
 
 tried: machine program command build/tests/second_results
 	@sh tests/program.sh
+
+# On the machine's own processor, with the second program for a library: sanitizers and valgrind.
+sanitized: build/tests/second_results
+	@sh tests/sanitize.sh
 
 commanded: machine command build/tests/kelubashi_faulty build/tests/second_results
 	@sh tests/command.sh 'over the library' 'sh tests/machine.sh run build/kelubashi' 'sh tests/machine.sh run build/tests/kelubashi_faulty'
@@ -198,6 +206,7 @@ build/tests/kelubashi_faulty: $(COMMAND) build/tests/command_faults.o machine li
 
 build/host/example: build/host/kelubashi_selfcheck.o
 build/tests/case_files: build/tests/expected.o
+build/tests/facts: STRICT += -pthread
 ASK_STATES = $(patsubst %,build/tests/%.o,drive orbits aimed aimed_search inputs ask_state)
 ASK_FILES = $(patsubst %,build/tests/%.o,drive orbits sections damaged lent ask_file)
 build/tests/propagate: $(ASK_STATES) build/tests/aims.o $(SECOND)

@@ -96,6 +96,14 @@ cp "$room/wrote" "$room/expected"
 propagate </dev/zero >"$room/wrote" 2>"$room/said"
 held 'an input that does not end' "$room/expected" ''
 
+# A FIFO is waited for, and read until its writer closes it.
+mkfifo "$room/fifo"
+expected <"$example" >"$room/expected"
+(sleep 0.3 && head -c 100 "$example" && sleep 0.1 && tail -c +101 "$example") >"$room/fifo" &
+propagate "$room/fifo" >"$room/wrote" 2>"$room/said"
+wait
+held 'a FIFO' "$room/expected" ''
+
 # ---- What cannot be read: it is said, with the name, and nothing is written.
 
 # $1 is the case, $2 what is said; the rest are the program's words.

@@ -56,7 +56,7 @@ static void describe(const struct element_file *elements, uint64_t place, char *
             snprintf(text, size, "the count of %ss", s->name);
             return;
         }
-        count = word_at(elements->bytes + at);
+        count = word_from(elements->bytes + at);
         at += 8;
         if (place < at + 8 * s->width * count) {
             uint64_t word = (place - at) / 8;
@@ -96,7 +96,7 @@ size_t request_count(const struct element_file *elements)
 /* A word of a record, the records standing behind the count at this place. */
 static uint64_t record_word(const struct element_file *elements, int place, size_t record, size_t width, size_t word)
 {
-    return word_at(elements->bytes + (size_t)elements->answer[place] + 8 + 8 * (record * width + word));
+    return word_from(elements->bytes + (size_t)elements->answer[place] + 8 + 8 * (record * width + word));
 }
 
 uint64_t centre_word(const struct element_file *elements, size_t centre)

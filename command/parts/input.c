@@ -35,7 +35,7 @@ int read_whole(const char *name, uint8_t *room, size_t size, size_t *length)
     return good;
 }
 
-uint64_t word_at(const uint8_t *bytes)
+uint64_t word_from(const uint8_t *bytes)
 {
     uint64_t word = 0;
     int i;

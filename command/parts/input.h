@@ -11,6 +11,6 @@
 int read_whole(const char *name, uint8_t *room, size_t size, size_t *length);
 
 /* The word of eight bytes, the lowest first. */
-uint64_t word_at(const uint8_t *bytes);
+uint64_t word_from(const uint8_t *bytes);
 
 #endif

@@ -38,7 +38,7 @@ int take_results(const char *name, struct result_file *results)
 
 static uint64_t word_of(const struct result_file *results, size_t word)
 {
-    return word_at(results->bytes + 8 * word);
+    return word_from(results->bytes + 8 * word);
 }
 
 uint64_t row_word(const struct result_file *results, size_t row, size_t word)
