@@ -85,7 +85,8 @@ trap 'rm -rf "$files"' EXIT
 
 if [ "${1:-}" = fuzz ]; then
     shift
-    exec "$folder/damaged_command" "$files" "$@"
+    "$folder/damaged_command" "$files" "$@"
+    exit
 fi
 
 sh tests/command.sh 'under sanitizers' "$folder/kelubashi" "$folder/kelubashi_faulty"
