@@ -24,7 +24,7 @@ static void say_refused_requests(const struct element_file *elements, const stru
         }
     }
     if (refused > told)
-        say("%s: %lu more requests are refused: kelubashi show has them all", elements->name,
+        say("%s: more refused requests: %lu; kelubashi show has them all", elements->name,
             (unsigned long)(refused - told));
 }
 
@@ -36,7 +36,7 @@ static void say_done(const struct call *call, const struct element_file *element
     if (elements_refusal(elements) != 0)
         say("%s: the refusal is written to %s", elements->name, place);
     else
-        say("%s: %lu requests, %lu of them refused: the results are written to %s", elements->name,
+        say("%s: requests %lu, refused %lu: the results are written to %s", elements->name,
             (unsigned long)request_count(elements), (unsigned long)refused, place);
 }
 

@@ -59,13 +59,13 @@ static enum status run(const struct call *call)
     static struct element_file elements;
     static struct result_file results;
 
-    if (!take_elements(call->operands[0], &elements) || !take_results(call->operands[1], &results) ||
-        !are_results_of(&results, &elements))
+    if (!take_elements(call->operands[0], &elements) || !take_results(call->operands[1], &results))
         return NOT_DONE;
-    if (elements_refusal(&elements) == 0)
-        return show_rows(&elements, &results, call->quiet);
-    say_refused_elements(&elements);
-    return SOMETHING_REFUSED;
+    if (elements_refusal(&elements) != 0)
+        say_refused_elements(&elements);
+    if (!are_results_of(&results, &elements))
+        return NOT_DONE;
+    return elements_refusal(&elements) != 0 ? SOMETHING_REFUSED : show_rows(&elements, &results, call->quiet);
 }
 
 const struct subcommand show_subcommand = {

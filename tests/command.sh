@@ -96,10 +96,10 @@ says "kelubashi elements: $room/good.txt: centres 1, states 1, requests 1: the e
 second <"$good" >"$room/good.results"
 kelubashi 0 results "$good"
 writes "$room/good.results"
-says "kelubashi results: $good: 1 requests, 0 of them refused: the results are written to standard output"
+says "kelubashi results: $good: requests 1, refused 0: the results are written to standard output"
 kelubashi 0 results "$good" -o "$room/out/file"
 writes_nothing
-says "kelubashi results: $good: 1 requests, 0 of them refused: the results are written to $room/out/file"
+says "kelubashi results: $good: requests 1, refused 0: the results are written to $room/out/file"
 new_is_whole "$room/good.results"
 for words in "-q -o $room/out/file $good" "-qo $room/out/file $good" "-o$room/out/file -q -- $good" "$good -o $room/out/file -q"; do
     # shellcheck disable=SC2086 # a list of words
@@ -168,7 +168,7 @@ kelubashi results: $example: request 14, of state 0: $refused6"
 kelubashi 1 results $example
 writes "$room/example.results"
 says "$lines
-kelubashi results: $example: 15 requests, 2 of them refused: the results are written to standard output"
+kelubashi results: $example: requests 15, refused 2: the results are written to standard output"
 kelubashi 1 results -q $example -o "$room/out/file"
 says "$lines"
 new_is_whole "$room/example.results"
@@ -186,7 +186,7 @@ for count in 20 21 1000; do
     [ "$(grep -c "$refused3" "$room/said")" -eq 20 ] || fail "of $count refused requests not 20 are told"
     case $count in
     20) [ "$(wc -l <"$room/said")" -eq 20 ] || fail 'of 20 refused requests more is told than each' ;;
-    *) [ "$(tail -n 1 "$room/said")" = "kelubashi results: $room/many: $((count - 20)) more requests are refused: kelubashi show has them all" ] ||
+    *) [ "$(tail -n 1 "$room/said")" = "kelubashi results: $room/many: more refused requests: $((count - 20)); kelubashi show has them all" ] ||
         fail "of $count refused requests it is not told how many more there are" ;;
     esac
     second <"$room/many" >"$room/many.results"
@@ -286,7 +286,8 @@ old_is_whole
 # What cannot be written.
 unread "kelubashi results: $room/none/file: cannot be written: No such file or directory: correct the name" results -q "$good" -o "$room/none/file"
 unread "kelubashi results: $room/out: cannot be written: Is a directory: name a file and not a folder" results -q "$good" -o "$room/out"
-unread "kelubashi results: /dev/null: is no regular file, and is not replaced by one: leave -o out, and let the shell write there" results -q "$good" -o /dev/null
+unread "kelubashi results: $room/fifo: is no regular file, and is not replaced by one: leave -o out, and let the shell write there" results -q "$good" -o "$room/fifo"
+[ -p "$room/fifo" ] || fail 'a FIFO is replaced by a file'
 cp "$good" "$room/same"
 ln "$room/same" "$room/same2"
 unread "kelubashi results: $room/same2: is the file that was read, and is not written over: give another name" results "$room/same" -o "$room/same2"
@@ -406,11 +407,11 @@ new_is_whole "$room/full.results"
 foreign() {
     kelubashi 2 show "$1" "$2"
     writes_nothing
-    case $(cat "$room/said") in
+    case $(tail -n 1 "$room/said") in
     "kelubashi show: $2: $3"*) ;;
     *) fail "$asked: it says '$(cat "$room/said")' and not '$3'" ;;
     esac
-    [ "$(wc -l <"$room/said")" -eq 1 ] || fail "$asked: it says more than a line"
+    [ "$(grep -vc "^kelubashi show: $1: at byte .*refused (" "$room/said")" -eq 1 ] || fail "$asked: it says more than a line"
 }
 results=$room/damaged
 foreign "$good" "$room/example.results" "is of another element file: it has 15 rows, and $good 1 requests: name the element file"
@@ -436,7 +437,8 @@ for byte in 17 25 33 103; do
 done
 cp "$room/good.results" "$results"
 kelubashi 2 show "$room/no_centre" "$results"
-says "kelubashi show: $results: is of another element file: it has rows, and $room/no_centre is refused: name the element file that it is of, or make it anew with kelubashi results"
+says "kelubashi show: $room/no_centre: at byte 32, the centre of state 0: refused (24): a state's centre, or a request's state, is not there; correct that number: they start at 0 and stay below the section's count
+kelubashi show: $results: is of another element file: it has rows, and $room/no_centre is refused: name the element file that it is of, or make it anew with kelubashi results"
 
 # ---- elements: lines that are not good, each with its number; nothing is written.
 
