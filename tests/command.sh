@@ -348,9 +348,15 @@ unwritten() {
     asked="kelubashi $*, with a closed output"
     held
     says "$line: standard output: cannot be written: Bad file descriptor: it is closed: open it"
+    # a pipe whose reader has gone: opened both ways, then to write, then closed but for that
+    exec 4<>"$room/fifo"
+    exec 3>"$room/fifo"
+    exec 4>&-
+    status=0
     # shellcheck disable=SC2086 # a list of words
-    { status=0 && $command "$@" 2>"$room/said" || status=$?; echo $status >"$room/status"; } | true
-    status=$(cat "$room/status") asked="kelubashi $*, into a pipe that nobody reads"
+    $command "$@" >&3 2>"$room/said" || status=$?
+    exec 3>&-
+    asked="kelubashi $*, into a pipe that nobody reads"
     held
     says "$line: standard output: cannot be written: Broken pipe: its reader went away"
 }
