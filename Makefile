@@ -1,13 +1,14 @@
-# make run      the program on an element file, and its results in a table: make run ELEMENTS=FILE
-# make state    one state of an orbit through the C library: make state STATE='MU X Y Z VX VY VZ TAU'
+# make run      the command on an element file, and its results in a table: make run ELEMENTS=FILE
+# make state    one state of an orbit: make state STATE='MU X Y Z VX VY VZ TAU'
 # make check    all that must hold; ends in rt ci, whose last line is 'N passed, 0 failed'
 # make test     the C tests alone
 # make wrong    the second wrong programs of each promise, which the prover has to refuse, beside those of the gate
 # make fuzz     the library against the second program, by families and guided, as long as told: make fuzz N=1000000 SEED=7
 # make bench    instructions per call (and time on x86-64) beside plain C of the same rules: see bench/README.md
+# make command  build/kelubashi, the station's command, in C over the library
 # make program  build/propagate, the program, for x86-64, proved
 # make lib      build/libkelubashi.a, for x86-64, from proved crates only
-# make install  header, archive, pkg-config file, program and manual pages: make install PREFIX=/usr/local DESTDIR=
+# make install  what a station needs, under PREFIX: make install PREFIX=/usr/local DESTDIR=; make uninstall takes it away
 # make clean    remove build/ and rt's target/
 
 X86 = sh tests/machine.sh
@@ -37,23 +38,27 @@ export RT_JOBS = 4
 
 # One step at a time, in the order written: what is cheap to find wrong comes before what takes minutes.
 .NOTPARALLEL:
-.PHONY: run state check test wrong fuzz bench program lib install install-files clean
-.PHONY: kit layout map proved machine header edition readme selfcheck installed tried
+.PHONY: run state check test wrong fuzz bench program command lib install install-files uninstall clean
+.PHONY: kit layout map proved prefix machine header edition readme refusals selfcheck facts installed tried commanded sanitized
 
 # What make run shows.
 ELEMENTS = examples/orbits.elements
 
-run: program build/host/show
-	@$(X86) run build/propagate $(ELEMENTS) >build/results
-	@$(X86) run build/host/show $(ELEMENTS) build/results
+# What make state follows: a low Earth orbit, for ten minutes.
+STATE = 398600.4418 1131.340 -2282.343 6672.423 -5.64305 4.30333 2.42879 600
 
-state: build/host/propagate
-	@$(X86) run $< $(STATE)
+# A status of 1 tells of refused requests, which the table has too.
+run: command
+	@$(X86) run build/kelubashi results $(ELEMENTS) -o build/results || [ $$? -eq 1 ]
+	@$(X86) run build/kelubashi show $(ELEMENTS) build/results || [ $$? -eq 1 ]
+
+state: command
+	@$(X86) run build/kelubashi state $(STATE)
 
 check: layout map test
 	@rt ci
 
-test: machine header proved program edition readme selfcheck installed build/host/propagate tried $(TESTS)
+test: machine header proved program edition readme refusals selfcheck facts installed build/host/example tried commanded sanitized $(TESTS)
 	@sh tests/run.sh $(TESTS)
 
 wrong: kit
@@ -63,6 +68,7 @@ fuzz: machine $(FUZZ)
 	@echo 'fuzz: $(if $(INPUT),$(INPUT),$(N) inputs of seed $(SEED) each, from number $(FIRST) on), to: $(strip $(FUZZ))'
 	@for test in $(filter-out $(GUIDED),$(FUZZ)); do $(X86) run "$$test" $(N) $(SEED) $(FIRST) || exit 1; done
 	@for test in $(filter $(GUIDED),$(FUZZ)); do $(X86) run "$$test" $(or $(INPUT),$(N) $(SEED)) || exit 1; done
+	@$(if $(INPUT)$(filter-out $(COMPARISONS) $(GUIDED),$(FUZZ)),,sh tests/sanitize.sh fuzz $(N) $(SEED) $(FIRST))
 
 bench: machine $(BENCH:%=build/bench/%)
 	@sh bench/run.sh $(BENCH)
@@ -88,30 +94,50 @@ program: kit
 	@rt check propagate >build/program.log 2>&1 || { cut -c 1-1500 build/program.log; exit 1; }
 	@cp target/bin/propagate build/
 
-# Where the files go, and, for those who make packages, a folder that stands for the root.
+command: build/kelubashi
+
+# Where the files go, and, for those who make packages, a folder that stands for the root. They go through
+# the environment, so that no character of a name means anything to the shell.
 PREFIX = /usr/local
 DESTDIR =
-INTO = $(DESTDIR)$(PREFIX)
-MAN = $(INTO)/share/man
-FOLDERS = include lib/pkgconfig bin share/man/man1 share/man/man3 share/man/man5
-CALLS = root propagate partials read write results
+install-files uninstall: export PREFIX := $(PREFIX)
+install-files uninstall: export INTO = $(DESTDIR)$(PREFIX)
 
-install: lib program install-files
+# What is installed, by folder, and the names that lead to the page of the calls.
+PROGRAMS = propagate kelubashi
+INTERFACE = kelubashi.h kelubashi_selfcheck.h
+PAGES = $(notdir $(wildcard man/*))
+LINKED = $(patsubst %,kelubashi1_%.3,root propagate partials read write results) \
+	$(patsubst %,kelubashi_%.3,propagate partials refusal_text refusal_advice)
+FOLDERS = bin include lib/pkgconfig share/kelubashi share/man/man1 share/man/man3 share/man/man5
+
+install: lib program command install-files
 
 # Copies what is in build/ and writes nothing there, so that root can do it after another has built. A folder
 # that is there is left alone: install -d would set its mode.
-install-files:
-	@case '$(PREFIX)' in /*) ;; *) echo "install: PREFIX is '$(PREFIX)': give it as a path from / on" >&2; exit 1 ;; esac
-	for folder in $(FOLDERS); do [ -d '$(INTO)'/$$folder ] || install -d '$(INTO)'/$$folder || exit 1; done
-	install -m 644 include/kelubashi.h '$(INTO)/include'
-	install -m 644 build/libkelubashi.a '$(INTO)/lib'
-	sed 's|@PREFIX@|$(PREFIX)|' kelubashi.pc.in >'$(INTO)/lib/pkgconfig/kelubashi.pc'
-	chmod 644 '$(INTO)/lib/pkgconfig/kelubashi.pc'
-	install -m 755 build/propagate '$(INTO)/bin'
-	install -m 644 man/propagate.1 '$(MAN)/man1'
-	install -m 644 man/kelubashi.3 '$(MAN)/man3'
-	for call in $(CALLS); do ln -sf kelubashi.3 '$(MAN)'/man3/kelubashi1_$$call.3 || exit 1; done
-	install -m 644 man/kelubashi-elements.5 man/kelubashi-results.5 '$(MAN)/man5'
+install-files: prefix
+	for folder in $(FOLDERS); do [ -d "$$INTO/$$folder" ] || install -d "$$INTO/$$folder" || exit 1; done
+	install -m 755 $(PROGRAMS:%=build/%) "$$INTO/bin"
+	install -m 644 $(INTERFACE:%=include/%) "$$INTO/include"
+	install -m 644 build/libkelubashi.a "$$INTO/lib"
+	sed "s|@PREFIX@|$$PREFIX|" kelubashi.pc.in >"$$INTO/lib/pkgconfig/kelubashi.pc"
+	chmod 644 "$$INTO/lib/pkgconfig/kelubashi.pc"
+	install -m 644 host/kelubashi_selfcheck.c "$$INTO/share/kelubashi"
+	for page in $(PAGES); do install -m 644 man/$$page "$$INTO/share/man/man$${page##*.}" || exit 1; done
+	for name in $(LINKED); do ln -sf kelubashi.3 "$$INTO/share/man/man3/$$name" || exit 1; done
+
+# Takes away what install put down, and the one folder that is the project's own.
+uninstall: prefix
+	for name in $(PROGRAMS:%=bin/%) $(INTERFACE:%=include/%) lib/libkelubashi.a lib/pkgconfig/kelubashi.pc \
+		share/kelubashi/kelubashi_selfcheck.c $(LINKED:%=share/man/man3/%); do rm -f "$$INTO/$$name" || exit 1; done
+	for page in $(PAGES); do rm -f "$$INTO/share/man/man$${page##*.}/$$page" || exit 1; done
+	[ ! -d "$$INTO/share/kelubashi" ] || rmdir "$$INTO/share/kelubashi"
+
+# pkg-config hands PREFIX to the shell, and so it has to be plain.
+prefix: export PREFIX := $(PREFIX)
+prefix:
+	@case "$$PREFIX" in /*) ;; *) echo "install: PREFIX is '$$PREFIX': give it as a path from / on" >&2; exit 1 ;; esac
+	@case "$$PREFIX" in *[!A-Za-z0-9/._+-]*) echo "install: PREFIX is '$$PREFIX': give one of letters, digits and / . _ + - alone" >&2; exit 1 ;; esac
 
 clean:
 	rm -rf build target
@@ -137,32 +163,55 @@ edition: machine lib
 readme: machine lib
 	@sh tests/readme.sh
 
-selfcheck: machine lib
+refusals: machine lib
+	@sh tests/refusals.sh
+
+facts: machine lib program build/tests/facts build/tests/stack
+	@sh tests/facts.sh
+
+selfcheck: machine lib command
 	@sh tests/selfcheck.sh
 
-installed: machine lib program build/tests/second_results
+installed: machine lib program command build/tests/second_results
 	@sh tests/install.sh
 
-tried: machine program build/host/elements build/host/show build/tests/second_results
+tried: machine program command build/tests/second_results
 	@sh tests/program.sh
+
+# On the machine's own processor, with the second program for a library: sanitizers and valgrind.
+sanitized: build/tests/second_results
+	@sh tests/sanitize.sh
+
+commanded: machine command build/tests/kelubashi_faulty build/tests/second_results
+	@sh tests/command.sh 'over the library' 'sh tests/machine.sh run build/kelubashi' 'sh tests/machine.sh run build/tests/kelubashi_faulty'
 
 SECOND = $(patsubst %,build/tests/second/%.o,root series search states files)
 TRACED = $(SECOND:build/tests/second/%=build/tests/traced/%)
 SELFTEST = $(patsubst %,build/tests/second/selftest%.o,_root _calls _orbits _files)
-HEADERS = include/kelubashi.h $(wildcard host/*.h tests/*.h tests/second/*.h)
+HEADERS = $(wildcard include/*.h command/*.h command/parts/*.h tests/*.h tests/second/*.h)
 
-build/host/propagate: build/host/selfcheck.o
+# The command: plain C99 and POSIX, with no warning of conversions either.
+COMMAND = $(patsubst %.c,build/%.o,$(wildcard command/*.c command/parts/*.c) host/kelubashi_selfcheck.c)
+build/command/%.o: STRICT += -Wconversion -D_XOPEN_SOURCE=700
+build/host/%: STRICT += -Wconversion
+
+build/kelubashi: $(COMMAND) machine lib
+	@$(X86) compile $(STRICT) -o $@ $(COMMAND) build/libkelubashi.a
+
+# The same, with faults of the machine before the system's calls.
+WRAPPED = $(patsubst %,-Wl$(comma)--wrap=%,rename fsync close fchmod write read)
+comma = ,
+build/tests/kelubashi_faulty: $(COMMAND) build/tests/command_faults.o machine lib
+	@$(X86) compile $(STRICT) $(WRAPPED) -o $@ $(COMMAND) build/tests/command_faults.o build/libkelubashi.a
+
+build/host/example: build/host/kelubashi_selfcheck.o
 build/tests/case_files: build/tests/expected.o
+build/tests/facts: STRICT += -pthread
 ASK_STATES = $(patsubst %,build/tests/%.o,drive orbits aimed aimed_search inputs ask_state)
 ASK_FILES = $(patsubst %,build/tests/%.o,drive orbits sections damaged lent ask_file)
 build/tests/propagate: $(ASK_STATES) build/tests/aims.o $(SECOND)
 build/tests/files: $(ASK_FILES) $(SECOND)
 $(GUIDED): $(ASK_STATES) $(ASK_FILES) $(patsubst %,build/tests/%.o,edges corpus packed changes changes_file) $(TRACED)
-
-# These read and write words alone, with the header and without the library.
-build/host/show build/host/elements: build/host/%: host/%.c include/kelubashi.h | machine
-	@mkdir -p $(@D)
-	@$(X86) compile $(STRICT) -Iinclude -o $@ $<
 
 build/%: %.c $(HEADERS) machine lib
 	@mkdir -p $(@D)

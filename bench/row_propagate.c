@@ -46,7 +46,7 @@ static void pass_quarter(const size_t *quarter)
     size_t i;
 
     for (i = 0; i < ORBITS; i++)
-        kelubashi1_propagate(ORBIT(quarter[i % QUARTER]), answer, 15);
+        calls[0](ORBIT(quarter[i % QUARTER]), answer, 15);
 }
 
 static void pass(size_t column)

@@ -1,21 +1,30 @@
 /*
 **  kelubashi.h: Kelubashi for C and C++, edition 1.
 **
-**  Every number crosses as its 64-bit word, the bits of its double. kelubashi_word and
-**  kelubashi_figure turn the one into the other, so that a program needs no cast.
+**  Every call of the library has the edition in its name, and takes and answers numbers as 64-bit
+**  words, the bits of their doubles. A program that has doubles calls kelubashi_propagate or
+**  kelubashi_partials, at the end of this header, which take and answer doubles; for the other calls
+**  kelubashi_word and kelubashi_figure turn the one into the other.
 **
 **  Every run, of words or of bytes, crosses as a pointer and a count. The answer run is written whole
 **  on every call, refused or not, and left alone by refusal 60. A count of 0 may come with a null
 **  pointer. The runs must not overlap.
 **
-**  Every function returns a status: 0, or the number of the refusal, the first that applies. No
-**  function keeps anything between calls.
+**  Every call returns a status: 0, or the number of the refusal, the first that applies. Look at it:
+**  compilers that can, warn where it is not. kelubashi_refusal_text has each number in words, and
+**  kelubashi_refusal_advice what to do about it.
+**
+**  No call keeps anything between calls: they are reentrant, and safe in several threads at once. They
+**  need SSE2 and nothing newer of the processor, memset and nothing else of libc, and of the stack at
+**  most 100 bytes (root), 200 (read), 300 (write), 1,100 (propagate), 1,300 (results) or 2,000
+**  (partials). They may raise floating-point flags, as fetestexcept shows them, and lower none.
 **
 **  The figures are those of a processor that rounds to nearest and keeps subnormal numbers, as
 **  programs find it when they start. Do not link with -ffast-math, which changes that.
-**  host/selfcheck.h has a call that sees it, for the start of a program.
+**  kelubashi_selfcheck.h has a call that sees it, for the start of a program.
 **
-**  The symbols carry the edition: a program built with the header of another edition does not link.
+**  The edition in the names is that of this interface: a program built with the header of another
+**  edition does not link. The edition of an element file is another number.
 */
 #ifndef KELUBASHI_H
 #define KELUBASHI_H
@@ -23,6 +32,15 @@
 #include <stddef.h>
 #include <stdint.h>
 #include <string.h>
+
+#define KELUBASHI_EDITION 1
+
+/* A status that is not looked at is worth a warning, where the compiler has one. */
+#ifdef __GNUC__
+#define KELUBASHI_STATUS __attribute__((warn_unused_result))
+#else
+#define KELUBASHI_STATUS
+#endif
 
 #ifdef __cplusplus
 extern "C" {
@@ -82,13 +100,9 @@ static inline double kelubashi_figure(uint64_t word)
 **     answer    the word of the root, in the unit whose square is the number's unit
 **               (kilometres for square kilometres); +0 for the root of +0 and of -0
 **
-**  Status:
-**      0        answered
-**      9        the number is negative and not zero, infinite, or a NaN; the answer is +0.
-**               Use no root: look at how the number came about.
-**     60        n is not 1; nothing is written.
-**               Correct the call: lend one word, and give 1 as its count.
+**  Refusals: 9, 60. Under 9 the answer is +0.
 */
+KELUBASHI_STATUS
 uint64_t kelubashi1_root(uint64_t word, uint64_t *answer, size_t n);
 
 /*
@@ -106,25 +120,9 @@ uint64_t kelubashi1_root(uint64_t word, uint64_t *answer, size_t n);
 **     answer    refusal, points, position, velocity, acceleration at the end and at the start, and
 **               the anomaly psi, in the order of the constants above, which have the units
 **
-**  Status:
-**      0        answered
-**      2        one of the eight is infinite or a NaN.
-**               Look at how that figure came about: a reading is missing, or a sum went out of range.
-**      3        the position is the centre's, or so near that its square is zero.
-**               Check x, y and z: they are seen from the centre, in km.
-**      4        a first figure (distance, speed, energy, first step) is too large for a double.
-**               Check the units of all eight: one is far out of range.
-**      5        41 trial points of growing size do not reach the interval.
-**               Check the units; if they are right, go there in several shorter intervals.
-**      6        a trial point lies beyond what doubles hold.
-**               Check the units; if they are right, go there in several shorter intervals.
-**      7        the distance at the end comes out as zero, below zero or as no number.
-**               Choose an end nearer to the start: the path meets the centre, or rounding has lost it.
-**      8        a division by zero, or a figure of the answer that is not finite.
-**               Check the units; if they are right, choose an end nearer to the start.
-**     60        n is not 15; nothing is written.
-**               Correct the call: lend 15 words, and give 15 as their count.
+**  Refusals: 2 to 8, 60. "Too large" of 4 is said of distance, speed, energy and the first step.
 */
+KELUBASHI_STATUS
 uint64_t kelubashi1_propagate(uint64_t mu, uint64_t x, uint64_t y, uint64_t z,
                               uint64_t vx, uint64_t vy, uint64_t vz, uint64_t tau,
                               uint64_t *answer, size_t n);
@@ -147,16 +145,10 @@ uint64_t kelubashi1_propagate(uint64_t mu, uint64_t x, uint64_t y, uint64_t z,
 **                  of position      1  (km by km)      s  (km by km/s)
 **                  of velocity      1/s (km/s by km)   1  (km/s by km/s)
 **
-**  Status:
-**      0        answered
-**      1        k is not 36; the answer is refused with no point tried.
-**               Correct the call: lend 36 words, and give 36 as their count.
-**      2 to 7   as for kelubashi1_propagate
-**      8        a division by zero, or a figure of the answer or a partial that is not finite.
-**               Try kelubashi1_propagate: it answers where only the partials are at fault.
-**     60        n is not 15; nothing is written to either run.
-**               Correct the call: lend 15 words, and give 15 as their count.
+**  Refusals: 1 to 8, 60. Under 1 no point is tried. 8 speaks of the partials too: where they alone are
+**  at fault, kelubashi1_propagate answers.
 */
+KELUBASHI_STATUS
 uint64_t kelubashi1_partials(uint64_t mu, uint64_t x, uint64_t y, uint64_t z,
                              uint64_t vx, uint64_t vy, uint64_t vz, uint64_t tau,
                              uint64_t *answer, size_t n, uint64_t *run, size_t k);
@@ -248,22 +240,10 @@ enum {
 **     answer    refusal, place, then place and count of the centres, of the states and of the
 **               requests, in the order of the constants above
 **
-**  Status, with the place of the first byte of the word at fault; the file is walked forward, and the
-**  first fault on the way is told:
-**      0        accepted
-**     21        a word that is needed is not whole: the file ends before it or in it.
-**               Fetch the file again: its end is missing, or a count is larger than its section.
-**     22        the edition is not 1.
-**               Look whether it is an element file; if so, use the library of its edition.
-**     23        a count is above its limit: 16 centres, 500 states, 1,500 requests.
-**               Correct the count at the place, or divide the file in several.
-**     24        a state's centre or a request's state is not in the file; numbers start at 0.
-**               Correct the number at the place: it must be below that section's count.
-**     25        bytes are left after the last section; the place is that of the first of them.
-**               Cut the file there, or correct the count that is too small.
-**     60        n is not 8; nothing is written.
-**               Correct the call: lend 8 words, and give 8 as their count.
+**  Refusals: 21 to 25, 60. The file is walked forward, and the first fault on the way is told, with the
+**  place of the first byte of the word at fault; with 25, of the first byte that is left.
 */
+KELUBASHI_STATUS
 uint64_t kelubashi1_read(const uint8_t *file, size_t length, uint64_t *answer, size_t n);
 
 /*
@@ -280,19 +260,11 @@ uint64_t kelubashi1_read(const uint8_t *file, size_t length, uint64_t *answer, s
 **     room      the file, with status 0; bytes behind it are left, and under a refusal all are
 **     answer    refusal, then the length written or the place of the refusal
 **
-**  Status, the first that applies in the order 27, 23, 24, 26; under one number the first in the file:
-**      0        written; the second word is the length
-**     23        too many records: above 16 centres, 500 states or 1,500 requests.
-**               Divide them over several files. The place is that of the count word.
-**     24        a state's centre or a request's state is not among those given; numbers start at 0.
-**               Correct that word. The place is where it would stand in the file.
-**     26        the room is too small; the second word is the length needed.
-**               Lend that many bytes, and call again.
-**     27        a run is not whole records; the place is 0 for centres, 1 for states, 2 for requests.
-**               Correct the call: give words as the count, 8 for each state, 2 for each request.
-**     60        n is not 2; nothing is written.
-**               Correct the call: lend 2 words, and give 2 as their count.
+**  Refusals: the first that applies in the order 60, 27, 23, 24, 26; under one number the first in the
+**  file. The place of 23 and 24 is that of the count, or of the number, in the file that would have
+**  been; that of 27 is 0 for centres, 1 for states, 2 for requests.
 */
+KELUBASHI_STATUS
 uint64_t kelubashi1_write(const uint64_t *centres, size_t centre_words,
                           const uint64_t *states, size_t state_words,
                           const uint64_t *requests, size_t request_words,
@@ -312,16 +284,161 @@ uint64_t kelubashi1_write(const uint64_t *centres, size_t centre_words,
 **               are. It must not be the room of the element file.
 **     answer    refusal, then the length written or needed
 **
-**  Status:
-**      0        written. A refused element file is so too, as its 24 bytes, and a refused request as
-**               its row: look at their refusals. kelubashi1_read tells the place in the element file.
-**     26        the room is too small; the second word is the length needed.
-**               Lend that many bytes, and call again.
-**     60        n is not 2; nothing is written.
-**               Correct the call: lend 2 words, and give 2 as their count.
+**  Refusals: 26, 60. A refused element file is none: its result file is its 24 bytes. Nor is a refused
+**  request: its row tells it. kelubashi1_read tells the place in the element file.
 */
+KELUBASHI_STATUS
 uint64_t kelubashi1_results(const uint8_t *file, size_t length, uint8_t *room, size_t size,
                             uint64_t *answer, size_t n);
+
+/*
+**  A state of an orbit as doubles, as kelubashi_propagate and kelubashi_partials answer it.
+*/
+struct kelubashi_answer {
+    uint64_t refusal;               /* the status once more */
+    uint64_t points;                /* trial points used in finding psi, 0 to 167 */
+    double position[3];             /* at the end, km */
+    double velocity[3];             /* at the end, km/s */
+    double end_acceleration[3];     /* km/s^2 */
+    double start_acceleration[3];   /* km/s^2 */
+    double psi;                     /* anomaly, s/km; not a time */
+};
+
+/* Three figures of an answer, from this word on. */
+static inline void kelubashi_three(const uint64_t *words, double *three)
+{
+    int i;
+
+    for (i = 0; i < 3; i++)
+        three[i] = kelubashi_figure(words[i]);
+}
+
+/* An answer's words as doubles. */
+static inline void kelubashi_answer_of(const uint64_t *words, struct kelubashi_answer *answer)
+{
+    answer->refusal = words[KELUBASHI_REFUSAL];
+    answer->points = words[KELUBASHI_POINTS];
+    kelubashi_three(words + KELUBASHI_X, answer->position);
+    kelubashi_three(words + KELUBASHI_VX, answer->velocity);
+    kelubashi_three(words + KELUBASHI_END_AX, answer->end_acceleration);
+    kelubashi_three(words + KELUBASHI_START_AX, answer->start_acceleration);
+    answer->psi = kelubashi_figure(words[KELUBASHI_PSI]);
+}
+
+/*
+**  kelubashi1_propagate for a program that has doubles.
+**
+**  Given:
+**     mu        km^3/s^2
+**     position  at the start, seen from the centre, km
+**     velocity  at the start, km/s
+**     tau       the interval from start to end, s
+**
+**  Returned, in answer, what kelubashi1_propagate answers; under a refusal every figure is +0.
+*/
+KELUBASHI_STATUS
+static inline uint64_t kelubashi_propagate(double mu, const double position[3], const double velocity[3], double tau,
+                                           struct kelubashi_answer *answer)
+{
+    uint64_t words[KELUBASHI_ANSWER];
+    uint64_t refusal = kelubashi1_propagate(
+        kelubashi_word(mu), kelubashi_word(position[0]), kelubashi_word(position[1]), kelubashi_word(position[2]),
+        kelubashi_word(velocity[0]), kelubashi_word(velocity[1]), kelubashi_word(velocity[2]), kelubashi_word(tau),
+        words, KELUBASHI_ANSWER);
+
+    kelubashi_answer_of(words, answer);
+    return refusal;
+}
+
+/*
+**  kelubashi1_partials for a program that has doubles: the same, and with status 0 the partials, by
+**  row (x y z vx vy vz at the end) and column (the same at the start). Refused, they stay as they were.
+*/
+KELUBASHI_STATUS
+static inline uint64_t kelubashi_partials(double mu, const double position[3], const double velocity[3], double tau,
+                                          struct kelubashi_answer *answer, double partials[6][6])
+{
+    uint64_t words[KELUBASHI_ANSWER], run[KELUBASHI_PARTIALS];
+    uint64_t refusal = kelubashi1_partials(
+        kelubashi_word(mu), kelubashi_word(position[0]), kelubashi_word(position[1]), kelubashi_word(position[2]),
+        kelubashi_word(velocity[0]), kelubashi_word(velocity[1]), kelubashi_word(velocity[2]), kelubashi_word(tau),
+        words, KELUBASHI_ANSWER, run, KELUBASHI_PARTIALS);
+    int i;
+
+    kelubashi_answer_of(words, answer);
+    for (i = 0; refusal == 0 && i < KELUBASHI_PARTIALS; i++)
+        partials[i / 6][i % 6] = kelubashi_figure(run[i]);
+    return refusal;
+}
+
+/*
+**  A refusal in words, and what to do about it: each a part of a line, without a full stop.
+*/
+struct kelubashi_refusal {
+    uint64_t number;
+    const char *text;
+    const char *advice;
+};
+
+/* The row of a number; for one that this edition does not have, a row that says so. */
+static inline const struct kelubashi_refusal *kelubashi_refusal_of(uint64_t number)
+{
+    static const struct kelubashi_refusal table[] = {
+        { 1, "the run for the partials is not 36 words long",
+             "lend 36 words, and give 36 as their count" },
+        { 2, "one of the eight figures is infinite or a NaN",
+             "look at how that figure came about" },
+        { 3, "the position is the centre's, or so near that its square is zero",
+             "check x, y and z: they are seen from the centre, in km" },
+        { 4, "a figure of the start is too large for a double",
+             "check the units of all eight" },
+        { 5, "41 trial points of growing size do not reach the interval",
+             "check the units, then go there in several shorter intervals" },
+        { 6, "a trial point lies beyond what doubles hold",
+             "check the units, then go there in several shorter intervals" },
+        { 7, "the distance at the end is not above zero",
+             "choose an end nearer to the start: the path meets the centre, or rounding has lost it" },
+        { 8, "a division by zero, or a figure of the answer that is not finite",
+             "check the units, then choose an end nearer to the start, or ask for no partials" },
+        { 9, "the root of a number below zero, infinite or a NaN",
+             "look at how that number came about" },
+        { 21, "the file ends before a word that is needed, or in it",
+              "fetch the file again, or correct a count that is too large" },
+        { 22, "the edition is not 1",
+              "look whether it is an element file; if so, use the library of its edition" },
+        { 23, "more than 16 centres, 500 states or 1,500 requests",
+              "correct the count, or divide the records over several files" },
+        { 24, "a state's centre, or a request's state, is not there",
+              "correct that number: they start at 0 and stay below the section's count" },
+        { 25, "bytes are left after the last section",
+              "cut the file there, or correct a count that is too small" },
+        { 26, "the room is too small for the file",
+              "lend as many bytes as the answer says, and call again" },
+        { 27, "a run to write is not whole records",
+              "give words as the count: 8 for each state, 2 for each request" },
+        { 60, "the answer run is not as long as the answer; nothing is written",
+              "lend 15 words (1 for the root, 8 to read, 2 to write or for results), and give their count" },
+        { 0, "a number that this edition does not have",
+             "use a library and a header of one edition" }
+    };
+    const struct kelubashi_refusal *row = table;
+
+    while (row->number != 0 && row->number != number)
+        row++;
+    return row;
+}
+
+/* What a refusal's number means. */
+static inline const char *kelubashi_refusal_text(uint64_t number)
+{
+    return kelubashi_refusal_of(number)->text;
+}
+
+/* What to do about it. */
+static inline const char *kelubashi_refusal_advice(uint64_t number)
+{
+    return kelubashi_refusal_of(number)->advice;
+}
 
 #ifdef __cplusplus
 }

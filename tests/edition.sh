@@ -6,6 +6,8 @@ cd "$(dirname "$0")/.."
 export LC_ALL=C     # the linker's words are read below
 
 entries=$(grep -o 'kelubashi1_[a-z]*' include/kelubashi.h | sort -u)
+grep -qx '#define KELUBASHI_EDITION 1' include/kelubashi.h ||
+    { echo "edition: KELUBASHI_EDITION is not the edition in the calls' names" >&2; exit 1; }
 
 # A folder with the header and a program that holds every entry point, both of edition $1.
 write() {

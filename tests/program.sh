@@ -51,8 +51,8 @@ refused() {
 }
 
 example=$here/examples/orbits.elements
-sh tests/machine.sh run build/host/elements <examples/orbits.txt | cmp - "$example" ||
-    fail 'examples/orbits.elements is not what host/elements.c makes of examples/orbits.txt'
+sh tests/machine.sh run build/kelubashi elements -q examples/orbits.txt | cmp - "$example" ||
+    fail 'examples/orbits.elements is not what kelubashi elements makes of examples/orbits.txt'
 same "$example"
 propagate crates/propagate/data/p10.elements >"$room/wrote" 2>"$room/said"
 held 'P10' crates/propagate/stdout ''
@@ -72,7 +72,7 @@ awk 'BEGIN {
     for (i = 0; i < 16; i++) print "centre", 398600.4418 / (i + 1)
     for (i = 0; i < 500; i++) print "state", i % 16, i, 7000 + 10 * i, i, -i, 0.001 * i, 7.5, 1
     for (i = 0; i < 1500; i++) print "request", i % 500, 10 * i
-}' | sh tests/machine.sh run build/host/elements >"$room/full"
+}' | sh tests/machine.sh run build/kelubashi elements -q /dev/stdin >"$room/full"
 [ "$(wc -c <"$room/full")" -eq 56160 ] || fail 'the full file does not have 56160 bytes'
 same "$room/full"
 [ "$(wc -c <"$room/wrote")" -eq 132016 ] || fail 'the results of the full file do not have 132016 bytes'
@@ -95,6 +95,14 @@ refused 'a long file of zeros' 22
 cp "$room/wrote" "$room/expected"
 propagate </dev/zero >"$room/wrote" 2>"$room/said"
 held 'an input that does not end' "$room/expected" ''
+
+# A FIFO is waited for, and read until its writer closes it.
+mkfifo "$room/fifo"
+expected <"$example" >"$room/expected"
+(sleep 0.3 && head -c 100 "$example" && sleep 0.1 && tail -c +101 "$example") >"$room/fifo" &
+propagate "$room/fifo" >"$room/wrote" 2>"$room/said"
+wait
+held 'a FIFO' "$room/expected" ''
 
 # ---- What cannot be read: it is said, with the name, and nothing is written.
 

@@ -6,7 +6,7 @@ mkdir -p build/readme
 
 sh tests/block.sh c >build/readme/program.c
 sh tests/block.sh text >build/readme/expected
-sh tests/machine.sh compile -std=c99 -Wall -Wextra -pedantic -Werror -Iinclude -o build/readme/program \
+sh tests/machine.sh compile -std=c99 -Wall -Wextra -pedantic -Wconversion -Werror -Iinclude -o build/readme/program \
     build/readme/program.c build/libkelubashi.a
 sh tests/machine.sh run build/readme/program >build/readme/printed
 diff build/readme/expected build/readme/printed ||

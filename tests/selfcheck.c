@@ -6,9 +6,8 @@
 **
 **  A fault that this machine does not take is named, and not counted.
 */
-#include "../host/selfcheck.h"
-
 #include "kelubashi.h"
+#include "kelubashi_selfcheck.h"
 
 #include <fenv.h>
 #include <stdio.h>

@@ -4,9 +4,8 @@
 **  The library here is the second program. As it is, the self-check has to be silent, so what it
 **  expects is not the library's own word alone; with each fault the first case astray has to be told.
 */
-#include "../host/selfcheck.h"
-
 #include "kelubashi.h"
+#include "kelubashi_selfcheck.h"
 #include "second/second.h"
 
 #include <stdio.h>
@@ -16,7 +15,11 @@
 enum fault {
     NONE, ROOT_OF_ZEROS, ROOT_DROPS_SUBNORMALS, ROOT_NEVER_REFUSES, ROOT_CUT_OFF,
     ZEROS, NOTHING_WRITTEN, OTHER_NUMBERS, OTHER_COUNT, NO_REFUSAL_WORD, ONE_POINT_MORE, MINUS_ZERO_LOST,
-    SIGN_OF_PSI_LOST, ACCELERATIONS_EXCHANGED, LAST_BIT, SUBNORMALS_DROPPED
+    SIGN_OF_PSI_LOST, ACCELERATIONS_EXCHANGED, LAST_BIT, SUBNORMALS_DROPPED,
+    PARTIALS_UNWRITTEN, PARTIALS_BY_COLUMN, PARTIALS_LAST_BIT, PARTIALS_WITHOUT_ANSWER, PARTIALS_ANY_RUN, PARTIALS_UNDER_REFUSAL,
+    READ_REFUSES_ALL, READ_BY_WORDS, READ_STATES_FOR_CENTRES, READ_TAKES_SHORT_FILES, READ_PLACE_LOST,
+    WRITE_HIGHEST_FIRST, WRITE_NOTHING, WRITE_BEYOND, WRITE_IN_ANY_ROOM, WRITE_LENGTH_IN_WORDS,
+    RESULTS_OF_ZEROS, RESULTS_WITHOUT_COUNT, RESULTS_REFUSE, RESULTS_TAKE_SHORT_FILES, RESULTS_LENGTH_LOST
 };
 
 static enum fault fault;
@@ -41,7 +44,28 @@ static const struct telling {
     { SIGN_OF_PSI_LOST, DOES_NOT "P11: psi is 3FF0000000000000 and not BFF0000000000000: " },
     { ACCELERATIONS_EXCHANGED, DOES_NOT "the low Earth orbit: ax at the end is " },
     { LAST_BIT, DOES_NOT "the low Earth orbit: vz is C001008399837D4F and not C001008399837D4E: " },
-    { SUBNORMALS_DROPPED, DOES_NOT "the subnormal orbit: vy is 0000000000000000 and not 0000100000000000: " }
+    { SUBNORMALS_DROPPED, DOES_NOT "the subnormal orbit: vy is 0000000000000000 and not 0000100000000000: " },
+    { PARTIALS_UNWRITTEN, DOES_NOT "the partials of the low Earth orbit: a partial is 5EED5EED5EED5EED and not " },
+    { PARTIALS_BY_COLUMN, DOES_NOT "the partials of the low Earth orbit: a partial is BF79571FB16B916A and not BF70E20D50E051D8: " },
+    { PARTIALS_LAST_BIT, DOES_NOT "the partials of the low Earth orbit: a partial is 3FF62E725EE51BB3 and not 3FF62E725EE51BB2: " },
+    { PARTIALS_WITHOUT_ANSWER, DOES_NOT "the partials of the low Earth orbit: x is 5EED5EED5EED5EED and not " },
+    { PARTIALS_ANY_RUN, DOES_NOT "a run of 35 words for the partials: the status is 0 and not 1: " },
+    { PARTIALS_UNDER_REFUSAL, DOES_NOT "a run of 35 words for the partials: a partial is 0000000000000000 and not 5EED5EED5EED5EED: " },
+    { READ_REFUSES_ALL, DOES_NOT "reading P10's file: the status is 22 and not 0: " },
+    { READ_BY_WORDS, DOES_NOT "reading P10's file: the place of the centres is 1 and not 8: " },
+    { READ_STATES_FOR_CENTRES, DOES_NOT "reading P10's file: the place of the states is 96 and not 24: " },
+    { READ_TAKES_SHORT_FILES, DOES_NOT "reading P10's file, a byte short: the status is 0 and not 21: " },
+    { READ_PLACE_LOST, DOES_NOT "reading P10's file, a byte short: the place is 0 and not 112: " },
+    { WRITE_HIGHEST_FIRST, DOES_NOT "writing P10's file: a word of the room is 0100000000000000 and not 0000000000000001: " },
+    { WRITE_NOTHING, DOES_NOT "writing P10's file: a word of the room is 5EED5EED5EED5EED and not 0000000000000001: " },
+    { WRITE_BEYOND, DOES_NOT "writing P10's file: a word of the room is 0000000000000000 and not 5EED5EED5EED5EED: " },
+    { WRITE_IN_ANY_ROOM, DOES_NOT "writing P10's file, in room a byte short: the status is 0 and not 26: " },
+    { WRITE_LENGTH_IN_WORDS, DOES_NOT "writing P10's file: the length is 15 and not 120: " },
+    { RESULTS_OF_ZEROS, DOES_NOT "the results of P10's file: a word of the room is 0000000000000000 and not 0000000000000001: " },
+    { RESULTS_WITHOUT_COUNT, DOES_NOT "the results of P10's file: a word of the room is 0000000000000000 and not 0000000000000001: " },
+    { RESULTS_REFUSE, DOES_NOT "the results of P10's file, a byte short: the status is 21 and not 0: " },
+    { RESULTS_TAKE_SHORT_FILES, DOES_NOT "the results of P10's file, a byte short: the length is 104 and not 24: " },
+    { RESULTS_LENGTH_LOST, DOES_NOT "the results of P10's file: the length is 0 and not 104: " }
 };
 
 static int is_subnormal(uint64_t word)
@@ -132,6 +156,86 @@ uint64_t kelubashi1_propagate(uint64_t mu, uint64_t x, uint64_t y, uint64_t z,
     if (fault != NOTHING_WRITTEN)
         memcpy(answer, right, sizeof right);
     return status;
+}
+
+uint64_t kelubashi1_partials(uint64_t mu, uint64_t x, uint64_t y, uint64_t z,
+                             uint64_t vx, uint64_t vy, uint64_t vz, uint64_t tau,
+                             uint64_t *answer, size_t n, uint64_t *run, size_t k)
+{
+    uint64_t right[KELUBASHI_PARTIALS], kept = answer[KELUBASHI_X];
+    uint64_t status = second_partials(mu, x, y, z, vx, vy, vz, tau, answer, n, right, fault == PARTIALS_ANY_RUN ? 36 : k);
+    size_t i;
+
+    if (fault == PARTIALS_WITHOUT_ANSWER)
+        answer[KELUBASHI_X] = kept;
+    if (fault == PARTIALS_LAST_BIT)
+        right[35] ^= 1;
+    if (status == 0 && fault != PARTIALS_UNWRITTEN)
+        for (i = 0; i < k; i++)
+            run[i] = right[fault == PARTIALS_BY_COLUMN ? i % 6 * 6 + i / 6 : i];
+    if (status != 0 && fault == PARTIALS_UNDER_REFUSAL)
+        memset(run, 0, k * sizeof *run);
+    return status;
+}
+
+uint64_t kelubashi1_read(const uint8_t *file, size_t length, uint64_t *answer, size_t n)
+{
+    uint64_t status = second_read(file, fault == READ_TAKES_SHORT_FILES ? 120 : length, answer, n);
+
+    if (fault == READ_REFUSES_ALL)
+        return 22;
+    if (fault == READ_BY_WORDS)
+        answer[KELUBASHI_READ_CENTRES] /= 8;
+    if (fault == READ_STATES_FOR_CENTRES)
+        answer[KELUBASHI_READ_STATES] = answer[KELUBASHI_READ_REQUESTS];
+    if (fault == READ_PLACE_LOST)
+        answer[KELUBASHI_READ_PLACE] = 0;
+    return status;
+}
+
+/* The bytes of each word the other way round. */
+static void turn_words(uint8_t *bytes, size_t length)
+{
+    size_t i;
+
+    for (i = 0; i < length; i++)
+        if (i % 8 < 4) {
+            uint8_t kept = bytes[i];
+            bytes[i] = bytes[i + 7 - 2 * (i % 8)];
+            bytes[i + 7 - 2 * (i % 8)] = kept;
+        }
+}
+
+uint64_t kelubashi1_write(const uint64_t *centres, size_t centre_words, const uint64_t *states, size_t state_words,
+                          const uint64_t *requests, size_t request_words, uint8_t *room, size_t size,
+                          uint64_t *answer, size_t n)
+{
+    static uint8_t right[128];
+    uint64_t status = second_write(centres, centre_words, states, state_words, requests, request_words, right,
+                                   fault == WRITE_IN_ANY_ROOM ? sizeof right : size, answer, n);
+
+    if (fault == WRITE_HIGHEST_FIRST)
+        turn_words(right, 120);
+    if (status == 0 && fault != WRITE_NOTHING)
+        memcpy(room, right, size < 120 ? size : 120);
+    if (status == 0 && fault == WRITE_BEYOND)
+        memset(room + 120, 0, 8);
+    if (fault == WRITE_LENGTH_IN_WORDS)
+        answer[KELUBASHI_WRITE_LENGTH] /= 8;
+    return status;
+}
+
+uint64_t kelubashi1_results(const uint8_t *file, size_t length, uint8_t *room, size_t size, uint64_t *answer, size_t n)
+{
+    uint64_t status = second_results(file, fault == RESULTS_TAKE_SHORT_FILES ? 120 : length, room, size, answer, n);
+
+    if (fault == RESULTS_OF_ZEROS)
+        memset(room, 0, 104);
+    if (fault == RESULTS_WITHOUT_COUNT)
+        memmove(room + 8, room + 16, 88);
+    if (fault == RESULTS_LENGTH_LOST)
+        answer[KELUBASHI_RESULTS_LENGTH] = 0;
+    return fault == RESULTS_REFUSE && length < 120 ? 21 : status;
 }
 
 int main(void)

@@ -8,7 +8,7 @@
 **  What is expected is document 01's, or the second program's (tests/second) where a case has a name
 **  instead of a number. It never was the library's own answer.
 */
-#include "selfcheck.h"
+#include "kelubashi_selfcheck.h"
 
 #include "kelubashi.h"
 
@@ -180,6 +180,26 @@ static const struct orbit {
         W(8000000000000001), W(8000000000000001), W(8000000000000002), W(3FB3B13B13B13B14) } }
 };
 
+/* The first word of a run that is not the right one, by its name; the first so many are whole numbers. */
+static const char *astray(const char *name, const char *const *names, const uint64_t *words, const uint64_t *right,
+                          int count, int numbers)
+{
+    int i;
+
+    for (i = 0; i < count; i++)
+        if (words[i] != right[i])
+            return (i < numbers ? astray_number : astray_word)(name, names[i], words[i], right[i]);
+    return NULL;
+}
+
+static void lend(uint64_t *words, int count)
+{
+    int i;
+
+    for (i = 0; i < count; i++)
+        words[i] = LENT;
+}
+
 static const char *orbit(const struct orbit *at)
 {
     volatile uint64_t given[8];
@@ -188,16 +208,168 @@ static const char *orbit(const struct orbit *at)
 
     for (i = 0; i < 8; i++)
         given[i] = at->given[i];
-    for (i = 0; i < KELUBASHI_ANSWER; i++)
-        answer[i] = LENT;
+    lend(answer, KELUBASHI_ANSWER);
     status = kelubashi1_propagate(given[0], given[1], given[2], given[3], given[4], given[5], given[6], given[7],
                                   answer, KELUBASHI_ANSWER);
     if (status != at->right[KELUBASHI_REFUSAL])
         return astray_number(at->name, "the status", status, at->right[KELUBASHI_REFUSAL]);
-    for (i = 0; i < KELUBASHI_ANSWER; i++)
-        if (answer[i] != at->right[i])
-            return (i <= KELUBASHI_POINTS ? astray_number : astray_word)(at->name, NAMES[i], answer[i], at->right[i]);
+    return astray(at->name, NAMES, answer, at->right, KELUBASHI_ANSWER, KELUBASHI_X);
+}
+
+/* ---- the partials of the low Earth orbit, and none where the run is a word short ---- */
+
+static const struct orbit *const LOW_ORBIT = &ORBITS[7];
+
+static const uint64_t PARTIALS[KELUBASHI_PARTIALS] = {
+    W(3FEA1E0A265B5CAE), W(BF70E20D50E051D8), W(BF7E24326AD10E00), W(40819BFE59373DDD), W(3FD0B964DE170850), W(C0244AEDF96F6A9E),
+    W(BF79571FB16B916A), W(3FEAC1795129AA25), W(BFBB7B7A4A131451), W(3FAAA269434F49C0), W(4081A1B2758C2997), W(C02C75A48402C772),
+    W(3F69058CE6914014), W(BFBDBE230B9FA328), W(3FF61E8DDE4E41AC), W(C0222E80228B0EC5), W(C02E3FE3C9FFD17E), W(408524B3F7585B25),
+    W(BF42C1FA53B68FB6), W(3EDA68585A64D420), W(BF2B120F746BDD2C), W(3FEA9D4110B3BB0B), W(3F52EBDD7E9BD0D0), W(BFB9602A97BF66B1),
+    W(BEE6034973FB8408), W(BF4268F63302C8AF), W(BF2C25F47AD9E55B), W(BF4DAD741BEE7D40), W(3FEA21F52ABCD73E), W(BF9EFAD0F271B66A),
+    W(BF1FF0BB7A90D09A), W(BF32C7C26822B604), W(3F562AA64E17BCCF), W(BFB6B7200084A64A), W(BFA4005C9FBF77A0), W(3FF62E725EE51BB2)
+};
+
+static const char *partials(size_t k, uint64_t right_status)
+{
+    const char *name = right_status == 0 ? "the partials of the low Earth orbit" : "a run of 35 words for the partials";
+    const uint64_t *g = LOW_ORBIT->given;
+    uint64_t answer[KELUBASHI_ANSWER], run[KELUBASHI_PARTIALS], status;
+    int i;
+
+    lend(answer, KELUBASHI_ANSWER);
+    lend(run, KELUBASHI_PARTIALS);
+    status = kelubashi1_partials(g[0], g[1], g[2], g[3], g[4], g[5], g[6], g[7], answer, KELUBASHI_ANSWER, run, k);
+    if (status != right_status)
+        return astray_number(name, "the status", status, right_status);
+    if (answer[KELUBASHI_X] != (status == 0 ? LOW_ORBIT->right[KELUBASHI_X] : 0))
+        return astray_word(name, "x", answer[KELUBASHI_X], status == 0 ? LOW_ORBIT->right[KELUBASHI_X] : 0);
+    for (i = 0; i < KELUBASHI_PARTIALS; i++)
+        if (run[i] != (status == 0 ? PARTIALS[i] : LENT))
+            return astray_word(name, "a partial", run[i], status == 0 ? PARTIALS[i] : LENT);
     return NULL;
+}
+
+/* ---- P10 as an element file, and its result file ---- */
+
+enum { FILE_WORDS = 15, FILE_BYTES = 120, RESULT_WORDS = 13, REFUSED_WORDS = 3, ROOM = 128 };
+
+static const uint64_t ELEMENTS[FILE_WORDS] = {
+    1, 1, 0, 1, 0, 0, W(3FF0000000000000), 0, 0, 0, 0, 0, 1, 0, W(3FF0000000000000)
+};
+
+static const uint64_t RESULTS[RESULT_WORDS] = {
+    1, 1, 0, 21, W(3FF0000000000000), 0, 0, 0, 0, 0, MINUS_ZERO, MINUS_ZERO, MINUS_ZERO
+};
+
+static const uint64_t REFUSED[REFUSED_WORDS] = { 1, 0, 21 };
+
+static uint8_t file[FILE_BYTES], room[ROOM];
+
+/* The lowest byte first, on every machine. */
+static void put_bytes(const uint64_t *words, int count, uint8_t *bytes)
+{
+    int i;
+
+    for (i = 0; i < 8 * count; i++)
+        bytes[i] = (uint8_t)(words[i / 8] >> 8 * (i % 8));
+}
+
+static uint64_t word_at(const uint8_t *bytes)
+{
+    uint64_t word = 0;
+    int i;
+
+    for (i = 7; i >= 0; i--)
+        word = word << 8 | bytes[i];
+    return word;
+}
+
+/* The room holds these words and, behind them, what it held when it was lent. */
+static const char *room_astray(const char *name, const uint64_t *right, int count)
+{
+    int i;
+
+    for (i = 0; i < ROOM / 8; i++) {
+        uint64_t word = word_at(room + 8 * i), here = i < count ? right[i] : LENT;
+        if (word != here)
+            return astray_word(name, "a word of the room", word, here);
+    }
+    return NULL;
+}
+
+static void lend_room(void)
+{
+    uint64_t words[ROOM / 8];
+
+    lend(words, ROOM / 8);
+    put_bytes(words, ROOM / 8, room);
+}
+
+static const char *const READ_NAMES[KELUBASHI_READ_ANSWER] = {
+    "the refusal", "the place", "the place of the centres", "their count", "the place of the states", "their count",
+    "the place of the requests", "their count"
+};
+
+static const char *const LENGTH_NAMES[KELUBASHI_WRITE_ANSWER] = { "the refusal", "the length" };
+
+static const char *reading(const char *name, size_t length, const uint64_t *right)
+{
+    uint64_t answer[KELUBASHI_READ_ANSWER], status;
+
+    lend(answer, KELUBASHI_READ_ANSWER);
+    status = kelubashi1_read(file, length, answer, KELUBASHI_READ_ANSWER);
+    if (status != right[0])
+        return astray_number(name, "the status", status, right[0]);
+    return astray(name, READ_NAMES, answer, right, KELUBASHI_READ_ANSWER, KELUBASHI_READ_ANSWER);
+}
+
+static const char *writing(const char *name, size_t size, const uint64_t *right)
+{
+    uint64_t answer[KELUBASHI_WRITE_ANSWER], status;
+    const char *wrong;
+
+    lend_room();
+    lend(answer, KELUBASHI_WRITE_ANSWER);
+    status = kelubashi1_write(ELEMENTS + 2, 1, ELEMENTS + 4, KELUBASHI_STATE, ELEMENTS + 13, KELUBASHI_REQUEST,
+                              room, size, answer, KELUBASHI_WRITE_ANSWER);
+    if (status != right[0])
+        return astray_number(name, "the status", status, right[0]);
+    wrong = astray(name, LENGTH_NAMES, answer, right, KELUBASHI_WRITE_ANSWER, KELUBASHI_WRITE_ANSWER);
+    return wrong != NULL ? wrong : room_astray(name, ELEMENTS, status == 0 ? FILE_WORDS : 0);
+}
+
+static const char *results(const char *name, size_t length, const uint64_t *rows, int count)
+{
+    const uint64_t right[KELUBASHI_RESULTS_ANSWER] = { 0, 8 * (uint64_t)count };
+    uint64_t answer[KELUBASHI_RESULTS_ANSWER], status;
+    const char *wrong;
+
+    lend_room();
+    lend(answer, KELUBASHI_RESULTS_ANSWER);
+    status = kelubashi1_results(file, length, room, ROOM, answer, KELUBASHI_RESULTS_ANSWER);
+    if (status != 0)
+        return astray_number(name, "the status", status, 0);
+    wrong = astray(name, LENGTH_NAMES, answer, right, KELUBASHI_RESULTS_ANSWER, KELUBASHI_RESULTS_ANSWER);
+    return wrong != NULL ? wrong : room_astray(name, rows, count);
+}
+
+/* The three calls that take files, on P10's, whole and a byte short. */
+static const char *files(void)
+{
+    static const uint64_t READ[KELUBASHI_READ_ANSWER] = { 0, 0, 8, 1, 24, 1, 96, 1 };
+    static const uint64_t SHORT[KELUBASHI_READ_ANSWER] = { 21, 112, 0, 0, 0, 0, 0, 0 };
+    static const uint64_t WRITTEN[KELUBASHI_WRITE_ANSWER] = { 0, FILE_BYTES };
+    static const uint64_t NO_ROOM[KELUBASHI_WRITE_ANSWER] = { 26, FILE_BYTES };
+    const char *wrong;
+
+    put_bytes(ELEMENTS, FILE_WORDS, file);
+    if ((wrong = reading("reading P10's file", FILE_BYTES, READ)) != NULL ||
+        (wrong = reading("reading P10's file, a byte short", FILE_BYTES - 1, SHORT)) != NULL ||
+        (wrong = writing("writing P10's file", ROOM, WRITTEN)) != NULL ||
+        (wrong = writing("writing P10's file, in room a byte short", FILE_BYTES - 1, NO_ROOM)) != NULL ||
+        (wrong = results("the results of P10's file", FILE_BYTES, RESULTS, RESULT_WORDS)) != NULL)
+        return wrong;
+    return results("the results of P10's file, a byte short", FILE_BYTES - 1, REFUSED, REFUSED_WORDS);
 }
 
 const char *kelubashi_selfcheck(void)
@@ -211,5 +383,9 @@ const char *kelubashi_selfcheck(void)
         wrong = root(&ROOTS[i]);
     for (i = 0; wrong == NULL && i < sizeof ORBITS / sizeof ORBITS[0]; i++)
         wrong = orbit(&ORBITS[i]);
-    return wrong;
+    if (wrong == NULL)
+        wrong = partials(KELUBASHI_PARTIALS, 0);
+    if (wrong == NULL)
+        wrong = partials(KELUBASHI_PARTIALS - 1, 1);
+    return wrong != NULL ? wrong : files();
 }

@@ -1,8 +1,9 @@
 /*
-**  selfcheck.h: a look at the processor and the library before the first orbit, for C and C++.
+**  kelubashi_selfcheck.h: a look at the processor and the library before the first orbit, for C and C++.
 **
 **  The library's figures are right only on a processor that rounds to nearest and keeps subnormal
 **  numbers. A host can lose both without a word: by fesetround, or by being linked with -ffast-math.
+**  The call is no part of the library: compile kelubashi_selfcheck.c with the program.
 */
 #ifndef KELUBASHI_SELFCHECK_H
 #define KELUBASHI_SELFCHECK_H
@@ -15,7 +16,8 @@ extern "C" {
 **  What is wrong with the processor or the library, in words.
 **
 **  Call it once at the start, and in the thread that will call the library: how a processor rounds is
-**  each thread's own. It changes nothing but a line of text of its own.
+**  each thread's own. It changes nothing but a line of text and some bytes of its own, so that one
+**  thread at a time may call it. It tries the processor, then all six calls of the library.
 **
 **  Returned: a null pointer where all is well, or else one line, without a line end, that says what is
 **  wrong and what to do. The line stands until the next call. Make no call of the library then.

@@ -1,0 +1,43 @@
+/*
+**  What a subcommand of kelubashi is. To add one: a file that defines a struct subcommand, its name
+**  below, and its line in the table of main.c.
+*/
+#ifndef COMMAND_H
+#define COMMAND_H
+
+/* The exit statuses, the same for every subcommand. */
+enum status {
+    ALL_WELL = 0,
+    SOMETHING_REFUSED = 1,  /* done, but something is refused */
+    NOT_DONE = 2,           /* cannot read, write, or understand the call */
+    UNSOUND = 3             /* the self-check failed */
+};
+
+/* A call of a subcommand, taken apart. */
+struct call {
+    char **operands;
+    int operand_count;
+    const char *output;     /* the name after -o, or a null pointer */
+    int quiet;              /* -q: say nothing but trouble */
+    int any_bits;           /* --any-bits */
+};
+
+struct subcommand {
+    const char *name;
+    const char *takes;      /* its operands and options, as the usage line has them */
+    const char *does;       /* a line for kelubashi --help */
+    const char *help;       /* the lines of its own --help, below the usage */
+    int operands;           /* how many it takes */
+    const char *letters;    /* its options, as getopt takes them */
+    int takes_any_bits;
+    enum status (*run)(const struct call *call);
+};
+
+extern const struct subcommand results_subcommand;
+extern const struct subcommand show_subcommand;
+extern const struct subcommand elements_subcommand;
+extern const struct subcommand read_subcommand;
+extern const struct subcommand state_subcommand;
+extern const struct subcommand selfcheck_subcommand;
+
+#endif

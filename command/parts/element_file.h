@@ -1,0 +1,40 @@
+/*
+**  An element file as it was read, judged by the library before anything in it is believed.
+*/
+#ifndef ELEMENT_FILE_H
+#define ELEMENT_FILE_H
+
+#include "kelubashi.h"
+
+struct element_file {
+    const char *name;
+    size_t length;
+    uint64_t answer[KELUBASHI_READ_ANSWER];     /* kelubashi1_read's */
+    uint8_t bytes[KELUBASHI_MOST_FILE + 1];     /* one more than any file that is accepted can have */
+};
+
+/* Reads and judges a file. False where it cannot be read, which is then said; the answer has the refusal. */
+int take_elements(const char *name, struct element_file *elements);
+
+/* Judges the bytes that are there. */
+void judge_elements(struct element_file *elements);
+
+/* The refusal of the file, or 0. */
+uint64_t elements_refusal(const struct element_file *elements);
+
+/* Says the refusal of the file: its number, byte, and what stands there. */
+void say_refused_elements(const struct element_file *elements);
+
+/* How many there are, and a word of one of them; for a file that is accepted. */
+size_t centre_count(const struct element_file *elements);
+size_t state_count(const struct element_file *elements);
+size_t request_count(const struct element_file *elements);
+uint64_t centre_word(const struct element_file *elements, size_t centre);
+uint64_t state_word(const struct element_file *elements, size_t state, size_t word);
+uint64_t request_word(const struct element_file *elements, size_t request, size_t word);
+
+/* The state of a request, and how long after its epoch the request's time is, in s. */
+size_t state_of(const struct element_file *elements, size_t request);
+double interval_of(const struct element_file *elements, size_t request);
+
+#endif

@@ -1,0 +1,134 @@
+#include "result_file.h"
+
+#include "input.h"
+#include "say.h"
+
+#include <inttypes.h>
+
+enum {
+    HEAD = 16,          /* bytes before the rows: edition and count */
+    REFUSED_FILE = 24,  /* bytes of the result file of a refused element file */
+    ROW_BYTES = 8 * KELUBASHI_ROW
+};
+
+#define MAKE_ANEW "make it anew with kelubashi results"
+
+static const char *const NAMES[KELUBASHI_ROW] = {
+    "the refusal", "the count of points", "x", "y", "z", "vx", "vy", "vz", "ax", "ay", "az"
+};
+
+int make_results(const struct element_file *elements, struct result_file *results)
+{
+    uint64_t answer[KELUBASHI_RESULTS_ANSWER] = { 0, 0 };
+    uint64_t refusal = kelubashi1_results(elements->bytes, elements->length, results->bytes, KELUBASHI_MOST_RESULTS,
+                                          answer, KELUBASHI_RESULTS_ANSWER);
+
+    results->name = "the results";
+    results->length = (size_t)answer[KELUBASHI_RESULTS_LENGTH];
+    if (refusal != 0)
+        say_refused(refusal, "%s: the library's results are", elements->name);
+    return refusal == 0;
+}
+
+int take_results(const char *name, struct result_file *results)
+{
+    results->name = name;
+    return read_whole(name, results->bytes, sizeof results->bytes, &results->length);
+}
+
+static uint64_t word_of(const struct result_file *results, size_t word)
+{
+    return word_from(results->bytes + 8 * word);
+}
+
+uint64_t row_word(const struct result_file *results, size_t row, size_t word)
+{
+    return word_of(results, HEAD / 8 + row * KELUBASHI_ROW + word);
+}
+
+size_t refused_count(const struct result_file *results, size_t rows)
+{
+    size_t row, count = 0;
+
+    for (row = 0; row < rows; row++)
+        count += row_word(results, row, KELUBASHI_REFUSAL) != 0;
+    return count;
+}
+
+/* ---- judging ---- */
+
+/* Whether a result file that counts so many rows can have this length. */
+static int is_length(uint64_t rows, size_t length)
+{
+    if (rows > KELUBASHI_MOST_REQUESTS)
+        return 0;
+    return length == HEAD + ROW_BYTES * (size_t)rows || (rows == 0 && length == REFUSED_FILE);
+}
+
+/* Edition, count and length agree with one another. */
+static int is_whole(const struct result_file *results)
+{
+    if (results->length < HEAD)
+        say("%s: is no result file: it has %lu bytes, and the shortest has %d: " MAKE_ANEW,
+            results->name, (unsigned long)results->length, (int)HEAD);
+    else if (word_of(results, 0) != 1)
+        say("%s: is no result file of edition 1: its first word is %" PRIu64 ": look whether it is a result file; if so, "
+            "use the command of its edition", results->name, word_of(results, 0));
+    else if (!is_length(word_of(results, 1), results->length))
+        say("%s: is no whole result file: it counts %" PRIu64 " rows, and has %lu bytes: " MAKE_ANEW,
+            results->name, word_of(results, 1), (unsigned long)results->length);
+    else
+        return 1;
+    return 0;
+}
+
+#define FOREIGN "name the element file that it is of, or " MAKE_ANEW
+
+/* Both are of a refused file, or neither is; and there is a row for each request. */
+static int is_alike(const struct result_file *results, const struct result_file *right, const struct element_file *elements)
+{
+    int refused = results->length == REFUSED_FILE, should = right->length == REFUSED_FILE;
+
+    if (refused && !should)
+        say("%s: is of another element file, one that is refused (%" PRIu64 "), and %s is not: " FOREIGN,
+            results->name, word_of(results, 2), elements->name);
+    else if (!refused && should)
+        say("%s: is of another element file: it has rows, and %s is refused: " FOREIGN, results->name, elements->name);
+    else if (results->length != right->length)
+        say("%s: is of another element file: it has %" PRIu64 " rows, and %s %" PRIu64 " requests: " FOREIGN,
+            results->name, word_of(results, 1), elements->name, word_of(right, 1));
+    else
+        return 1;
+    return 0;
+}
+
+/* The first word in which it is not what the library answers now. */
+static void say_difference(const struct result_file *results, const struct result_file *right,
+                           const struct element_file *elements, size_t word)
+{
+    size_t in_rows = word - HEAD / 8;
+
+    if (right->length == REFUSED_FILE)
+        say("%s: is of another element file, one that is refused (%" PRIu64 "), and %s is refused (%" PRIu64 "): " FOREIGN,
+            results->name, word_of(results, word), elements->name, word_of(right, word));
+    else
+        say("%s: is of another element file, of another library, or damaged: in row %lu %s is %016" PRIX64 ", and the library "
+            "answers %016" PRIX64 " to request %lu of %s: " FOREIGN, results->name,
+            (unsigned long)(in_rows / KELUBASHI_ROW), NAMES[in_rows % KELUBASHI_ROW], word_of(results, word),
+            word_of(right, word), (unsigned long)(in_rows / KELUBASHI_ROW), elements->name);
+}
+
+int are_results_of(const struct result_file *results, const struct element_file *elements)
+{
+    static struct result_file right;
+    size_t word;
+
+    if (!is_whole(results) || !make_results(elements, &right) || !is_alike(results, &right, elements))
+        return 0;
+    for (word = HEAD / 8; word < right.length / 8; word++)
+        if (word_of(results, word) != word_of(&right, word)) {
+            say_difference(results, &right, elements, word);
+            return 0;
+        }
+    return 1;
+}

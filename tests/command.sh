@@ -1,0 +1,510 @@
+#!/bin/sh
+# The command, for each exit status and each line that it says: sh tests/command.sh NAME KELUBASHI FAULTY, with the words that run the command
+# and that run it with the faults of tests/command_faults.c. What it writes is held, byte by byte, to what the second program gives; after
+# everything that fails, the old file has to be as it was, and nothing left beside it.
+set -eu
+cd "$(dirname "$0")/.."
+name=$1 command=$2 faulty=$3
+here=$PWD
+room=$(mktemp -d)
+trap 'rm -rf "$room"' EXIT
+export LC_ALL=C     # the system's reasons are read below
+cases=0
+
+fail() {
+    echo "command: $name: $1" >&2
+    exit 1
+}
+
+second() {
+    sh "$here/tests/machine.sh" run "$here/build/tests/second_results"
+}
+
+# Runs the command with these words; its status has to be $1. What it wrote is in wrote, what it said in said.
+kelubashi() {
+    wanted=$1 status=0
+    shift
+    # shellcheck disable=SC2086 # a list of words
+    $command "$@" >"$room/wrote" 2>"$room/said" || status=$?
+    asked="kelubashi $*"
+    held
+}
+
+# The same with a fault.
+fault() {
+    wanted=$1 status=0
+    FAULT=$2
+    export FAULT
+    shift 2
+    # shellcheck disable=SC2086 # a list of words
+    $faulty "$@" >"$room/wrote" 2>"$room/said" || status=$?
+    asked="kelubashi $*, with the fault '$FAULT'"
+    unset FAULT
+    held
+}
+
+held() {
+    [ $status -eq "$wanted" ] || fail "$asked: the status is $status and not $wanted; it says: $(cat "$room/said")"
+    cases=$((cases + 1))
+}
+
+# What the last call said: these lines, or nothing. What it wrote: nothing, or these bytes, or a text with this in it.
+says() {
+    printf '%s' "${1:+$1
+}" | cmp -s "$room/said" - || fail "$asked: it says '$(cat "$room/said")' and not '$1'"
+}
+
+writes_nothing() {
+    [ ! -s "$room/wrote" ] || fail "$asked: it writes to standard output: $(head -c 200 "$room/wrote")"
+}
+
+writes() {
+    cmp -s "$1" "$room/wrote" || fail "$asked: what it writes is not what it has to write"
+}
+
+shows() {
+    grep -qF -- "$1" "$room/wrote" || fail "$asked: '$1' is not in what it writes: $(cat "$room/wrote")"
+}
+
+# The old file is as it was, and no other is beside it.
+old_is_whole() {
+    cmp -s "$room/kept" "$room/out/file" || fail "$asked: the old file is not as it was"
+    [ "$(ls -A "$room/out")" = file ] || fail "$asked: a file is left: $(ls -A "$room/out")"
+}
+
+# The new file is in its place, and no other beside it.
+new_is_whole() {
+    cmp -s "$1" "$room/out/file" || fail "$asked: the new file is not what it has to be"
+    [ "$(ls -A "$room/out")" = file ] || fail "$asked: a file is left: $(ls -A "$room/out")"
+    cp "$room/kept" "$room/out/file"
+}
+
+mkdir "$room/out"
+echo 'the old file' >"$room/kept"
+cp "$room/kept" "$room/out/file"
+
+example=examples/orbits.elements
+printf 'centre 398600.4418\nstate 0 0 1131.340 -2282.343 6672.423 -5.64305 4.30333 2.42879\nrequest 0 600\n' >"$room/good.txt"
+good=$room/good.elements
+refused3="refused (3): the position is the centre's, or so near that its square is zero; check x, y and z: they are seen from the centre, in km"
+refused6='refused (6): a trial point lies beyond what doubles hold; check the units, then go there in several shorter intervals'
+
+# ---- 0: all well.
+
+kelubashi 0 elements "$room/good.txt" -o "$good"
+says "kelubashi elements: $room/good.txt: centres 1, states 1, requests 1: the element file, 120 bytes, is written to $good"
+second <"$good" >"$room/good.results"
+kelubashi 0 results "$good"
+writes "$room/good.results"
+says "kelubashi results: $good: requests 1, refused 0: the results are written to standard output"
+kelubashi 0 results "$good" -o "$room/out/file"
+writes_nothing
+says "kelubashi results: $good: requests 1, refused 0: the results are written to $room/out/file"
+new_is_whole "$room/good.results"
+for words in "-q -o $room/out/file $good" "-qo $room/out/file $good" "-o$room/out/file -q -- $good" "$good -o $room/out/file -q"; do
+    # shellcheck disable=SC2086 # a list of words
+    kelubashi 0 results $words
+    says ''
+    new_is_whole "$room/good.results"
+done
+kelubashi 0 read "$good"
+shows "$good: element file of edition 1, 120 bytes: centres 1, states 1, requests 1"
+shows '     0     398600.4418'
+shows '     0      0           0.000       1131.340000    -2282.343000     6672.423000    -5.643050000   4.303330000   2.428790000'
+shows '      0      0         600.000         600.000'
+says ''
+kelubashi 0 read -q "$good"
+writes_nothing
+says ''
+kelubashi 0 show "$good" "$room/good.results"
+shows '   0     0            600      -2252.288038      568.287869     6765.501223    -5.264048486   4.884961878  -2.125251006     32'
+says ''
+kelubashi 0 show -q "$good" "$room/good.results"
+writes_nothing
+kelubashi 0 state 398600.4418 1131.340 -2282.343 6672.423 -5.64305 4.30333 2.42879 600
+shows '  position      km          -2252.28803786836       568.287869371364       6765.50122306957'
+kelubashi 0 state -q -1 1 0 0 -.5 0 0 -1e0
+writes_nothing
+says ''
+kelubashi 0 selfcheck
+shows 'the library answers as edition 1 does'
+kelubashi 0 selfcheck -q
+writes_nothing
+kelubashi 0 --version
+shows 'kelubashi, edition 1'
+kelubashi 0 --help
+for each in results show elements read state selfcheck; do
+    shows "  kelubashi $each "
+done
+for each in results show elements read state selfcheck; do
+    kelubashi 0 $each --help
+    shows "usage: kelubashi $each"
+    shows '  2  not done: cannot read, write, or understand the call'
+    says ''
+done
+
+# A FIFO is waited for; a link is followed; the old mode is kept, and a new file has that of any file.
+mkfifo "$room/fifo"
+(sleep 0.3 && head -c 50 "$good" && sleep 0.2 && tail -c +51 "$good") >"$room/fifo" &
+kelubashi 0 results -q "$room/fifo"
+writes "$room/good.results"
+wait
+ln -s out/file "$room/link"
+chmod 640 "$room/out/file"
+kelubashi 0 results -q "$good" -o "$room/link"
+[ -h "$room/link" ] || fail 'a symbolic link is replaced'
+[ "$(stat -c %a "$room/out/file")" = 640 ] || fail 'the mode of the old file is not kept'
+chmod 644 "$room/out/file"
+new_is_whole "$room/good.results"
+(umask 027 && kelubashi 0 results -q "$good" -o "$room/new")
+[ "$(stat -c %a "$room/new")" = 640 ] || fail 'a new file does not have the mode of any new file'
+cmp -s "$room/good.results" "$room/new" || fail 'a new file is not the result file'
+
+# ---- 1: done, but something is refused.
+
+second <$example >"$room/example.results"
+lines="kelubashi results: $example: request 13, of state 5: $refused3
+kelubashi results: $example: request 14, of state 0: $refused6"
+kelubashi 1 results $example
+writes "$room/example.results"
+says "$lines
+kelubashi results: $example: requests 15, refused 2: the results are written to standard output"
+kelubashi 1 results -q $example -o "$room/out/file"
+says "$lines"
+new_is_whole "$room/example.results"
+kelubashi 1 show $example "$room/example.results"
+shows "  13     5            600   refused (3): the position is the centre's, or so near that its square is zero"
+[ "$(wc -l <"$room/wrote")" -eq 17 ] || fail 'the table of the example does not have 17 lines'
+kelubashi 1 show -q $example "$room/example.results"
+[ "$(wc -l <"$room/wrote")" -eq 4 ] || fail 'the refused rows of the example are not two, with two lines above them'
+
+# Twenty refused requests are told one by one, and how many more there are; exactly twenty without that line.
+for count in 20 21 1000; do
+    { echo 'centre 1' && echo 'state 0 0 0 0 0 0 0 0' && yes 'request 0 1' | head -n $count; } >"$room/many.txt"
+    kelubashi 0 elements -q "$room/many.txt" -o "$room/many"
+    kelubashi 1 results -q "$room/many" -o "$room/out/file"
+    [ "$(grep -c "$refused3" "$room/said")" -eq 20 ] || fail "of $count refused requests not 20 are told"
+    case $count in
+    20) [ "$(wc -l <"$room/said")" -eq 20 ] || fail 'of 20 refused requests more is told than each' ;;
+    *) [ "$(tail -n 1 "$room/said")" = "kelubashi results: $room/many: more refused requests: $((count - 20)); kelubashi show has them all" ] ||
+        fail "of $count refused requests it is not told how many more there are" ;;
+    esac
+    second <"$room/many" >"$room/many.results"
+    new_is_whole "$room/many.results"
+done
+
+# Each refusal of a state, by the second program's number.
+state() {
+    number=$1
+    shift
+    kelubashi 1 state "$@"
+    writes_nothing
+    case $(cat "$room/said") in
+    "kelubashi state: the state is refused ($number): "*"; "*) ;;
+    *) fail "$asked: it says '$(cat "$room/said")' and not that $number refuses it" ;;
+    esac
+}
+state 2 1 nan 0 0 0 0 0 1
+state 2 -- -inf 1 0 0 0 0 0 1
+state 3 1 0 0 0 0 0 0 1
+state 4 1 1e181 0 0 0 0 0 1
+state 5 1e200 1e-100 0 0 0 0 0 1e-200
+state 6 398600.4418 7000 0 0 0 7.5 0 1e300
+state 7 0 -1e10 0 0 -1e10 0 0 -1000
+state 8 -2 1e-150 0 0 0.001 0 0 0
+
+# Each refusal of an element file: told with its byte, and in a result file of its own.
+file() {
+    number=$1 place=$2
+    second <"$3" >"$room/expected"
+    [ "$(od -An -v -t u1 -j 16 -N 1 "$room/expected" | tr -d ' ')" = "$number" ] || fail "$3 is not refused with $number by the second program"
+    for words in "results -q -o $room/out/file" read "read -q"; do
+        # shellcheck disable=SC2086 # a list of words
+        kelubashi 1 $words "$3"
+        writes_nothing
+        case $(cat "$room/said") in
+        "kelubashi ${words%% *}: $3: at byte $place: refused ($number): "*"; "*) ;;
+        *) fail "$asked: it says '$(cat "$room/said")' and not that $number refuses it at byte $place" ;;
+        esac
+    done
+    new_is_whole "$room/expected"
+    kelubashi 1 show "$3" "$room/expected"
+    grep -qF ": at byte $place: refused ($number): " "$room/said" || fail "$asked: the refusal is not told"
+}
+: >"$room/empty"
+file 21 '0, the edition' "$room/empty"
+head -c 119 "$good" >"$room/short"
+file 21 '112, the time of request 0' "$room/short"
+head -c 60 "$good" >"$room/half"
+file 21 '56, y of state 0' "$room/half"
+{ printf '\002' && tail -c +2 "$good"; } >"$room/edition2"
+file 22 '0, the edition' "$room/edition2"
+{ head -c 24 "$good" && printf '\365\001' && tail -c +27 "$good"; } >"$room/states501"
+file 23 '24, the count of states' "$room/states501"
+{ head -c 32 "$good" && printf '\001' && tail -c +34 "$good"; } >"$room/no_centre"
+file 24 '32, the centre of state 0' "$room/no_centre"
+{ head -c 104 "$good" && printf '\007' && tail -c +106 "$good"; } >"$room/no_state"
+file 24 '104, the state of request 0' "$room/no_state"
+{ cat "$good" && printf x; } >"$room/long"
+file 25 '120, behind the last section' "$room/long"
+head -c 200000 /dev/zero >"$room/zeros"
+file 22 '0, the edition' "$room/zeros"
+
+# ---- 2: not done. First words that are not understood.
+
+unread() {
+    line=$1
+    shift
+    kelubashi 2 "$@"
+    writes_nothing
+    says "$line"
+}
+unread "kelubashi: a subcommand is missing: see kelubashi --help"
+unread "kelubashi: 'reslts' is no subcommand: see kelubashi --help" reslts
+unread "kelubashi: '--help' is no subcommand: see kelubashi --help" --help all
+unread "kelubashi results: 1 of 1 words are missing: usage: kelubashi results ELEMENTS [-o RESULTS]" results
+unread "kelubashi results: '$example' is one word too many: usage: kelubashi results ELEMENTS [-o RESULTS]" results "$good" $example
+unread "kelubashi show: 1 of 2 words are missing: usage: kelubashi show ELEMENTS RESULTS" show "$good"
+unread "kelubashi results: -o needs a name behind it: see kelubashi results --help" results "$good" -o
+unread "kelubashi results: -o is given twice: see kelubashi results --help" results "$good" -o a -o b
+unread "kelubashi results: -x is no option of it: see kelubashi results --help" results -x "$good"
+unread "kelubashi show: -o is no option of it: see kelubashi show --help" show -o a b c
+unread "kelubashi results: --any-bits is no option of it: see kelubashi results --help" results --any-bits "$good"
+unread "kelubashi state: 'km' is no figure: see kelubashi state --help" state 1 2 3 4 5 6 7 km
+unread "kelubashi state: '1e999' is out of the range of doubles: see kelubashi state --help" state 1e999 2 3 4 5 6 7 8
+unread "kelubashi state: 1 of 8 words are missing: usage: kelubashi state MU X Y Z VX VY VZ TAU" state 1 2 3 4 5 6 7
+
+# What cannot be read.
+unread "kelubashi results: $room/missing: cannot be read: No such file or directory: correct the name" results "$room/missing" -o "$room/out/file"
+unread "kelubashi results: $room: cannot be read: Is a directory: name a file and not a folder" results "$room" -o "$room/out/file"
+unread "kelubashi read: : cannot be read: No such file or directory: correct the name" read ''
+unread "kelubashi read: $good/x: cannot be read: Not a directory: correct the name" read "$good/x"
+unread "kelubashi elements: $room/missing: cannot be read: No such file or directory: correct the name" elements "$room/missing" -o "$room/out/file"
+unread "kelubashi show: $room/missing: cannot be read: No such file or directory: correct the name" show "$good" "$room/missing"
+old_is_whole
+
+# What cannot be written.
+unread "kelubashi results: $room/none/file: cannot be written: No such file or directory: correct the name" results -q "$good" -o "$room/none/file"
+unread "kelubashi results: $room/out: cannot be written: Is a directory: name a file and not a folder" results -q "$good" -o "$room/out"
+unread "kelubashi results: $room/fifo: is no regular file, and is not replaced by one: leave -o out, and let the shell write there" results -q "$good" -o "$room/fifo"
+[ -p "$room/fifo" ] || fail 'a FIFO is replaced by a file'
+cp "$good" "$room/same"
+ln "$room/same" "$room/same2"
+unread "kelubashi results: $room/same2: is the file that was read, and is not written over: give another name" results "$room/same" -o "$room/same2"
+cmp -s "$good" "$room/same" || fail 'the element file is written over'
+ln -s nowhere "$room/dangling"
+unread "kelubashi results: $room/dangling: cannot be written: No such file or directory: correct the name" results -q "$good" -o "$room/dangling"
+unread "kelubashi results: $room/$(head -c 250 /dev/zero | tr '\0' x): cannot be written: File name too long: give a shorter name" results -q "$good" -o "$room/$(head -c 250 /dev/zero | tr '\0' x)"
+
+# Root may read and write every file, so it tries these as nobody.
+chmod 711 "$room"
+cp "$good" "$room/locked"
+chmod 0 "$room/locked"
+as_nobody=''
+[ "$(id -u)" -ne 0 ] || as_nobody='setpriv --reuid=65534 --regid=65534 --clear-groups'
+mkdir -m 755 "$room/as"
+for word in $command; do [ ! -f "$word" ] || cp "$word" "$room/as"; done
+chmod 755 "$room/as"/*
+theirs=$(for word in $command; do if [ -f "$word" ]; then printf '%s ' "$room/as/${word##*/}"; else printf '%s ' "$word"; fi; done)
+mine=$command command="$as_nobody $theirs"
+chmod 644 "$good"
+unread "kelubashi results: $room/locked: cannot be read: Permission denied: look at the rights of the file and of its folder" results "$room/locked"
+chmod 555 "$room/out"
+unread "kelubashi results: $room/out/file: cannot be written: Permission denied: look at the rights of the file and of its folder" results -q "$good" -o "$room/out/file"
+command=$mine
+chmod 755 "$room/out"
+old_is_whole
+
+# A full disk: by the limit of file sizes, with none of the file's bytes and with some.
+{ echo 'centre 1' && echo 'state 0 0 1 0 0 0 0 0' && yes 'request 0 1' | head -n 1500; } >"$room/full.txt"
+kelubashi 0 elements -q "$room/full.txt" -o "$room/full"
+second <"$room/full" >"$room/full.results"
+limited() {
+    (ulimit -f "$1" && shift && kelubashi 2 "$@")
+    status=$? asked="kelubashi $*, with a limit of file sizes"
+    [ $status -eq 0 ] || exit 1
+    cases=$((cases + 1))
+    [ "$(grep -c 'File too large: look at the limit of file sizes' "$room/said")" -eq 1 ] || fail "$asked: it says '$(cat "$room/said")'"
+}
+for blocks in 1 64; do
+    limited $blocks results -q "$room/full" -o "$room/out/file"
+    old_is_whole
+done
+limited 1 elements -q "$room/full.txt" -o "$room/out/file"
+old_is_whole
+
+# Standard output: full, closed, a pipe that nobody reads.
+unwritten() {
+    line=$1 status=0
+    shift
+    # shellcheck disable=SC2086 # a list of words
+    $command "$@" >/dev/full 2>"$room/said" || status=$?
+    wanted=2 asked="kelubashi $*, on a full device"
+    held
+    says "$line: standard output: cannot be written: No space left on device: make room on that disk"
+    status=0
+    # shellcheck disable=SC2086 # a list of words
+    $command "$@" >&- 2>"$room/said" || status=$?
+    asked="kelubashi $*, with a closed output"
+    held
+    says "$line: standard output: cannot be written: Bad file descriptor: it is closed: open it"
+    # a pipe whose reader has gone: opened both ways, then to write, then closed but for that
+    exec 4<>"$room/fifo"
+    exec 3>"$room/fifo"
+    exec 4>&-
+    status=0
+    # shellcheck disable=SC2086 # a list of words
+    $command "$@" >&3 2>"$room/said" || status=$?
+    exec 3>&-
+    asked="kelubashi $*, into a pipe that nobody reads"
+    held
+    says "$line: standard output: cannot be written: Broken pipe: its reader went away"
+}
+second <"$room/full" >"$room/full.results"
+unwritten 'kelubashi results' results -q "$room/full"
+unwritten 'kelubashi elements' elements -q "$room/full.txt"
+unwritten 'kelubashi show' show "$room/full" "$room/full.results"
+unwritten 'kelubashi read' read "$room/full"
+unwritten 'kelubashi state' state 1 1 0 0 0 0 0 1
+unwritten 'kelubashi selfcheck' selfcheck
+unwritten 'kelubashi' --help
+unwritten 'kelubashi' --version
+unwritten 'kelubashi show' show --help
+
+# Closed streams take no file's number: nothing that is said goes into a file.
+status=0 asked='kelubashi results, with all streams closed' wanted=1
+# shellcheck disable=SC2086 # a list of words
+$command results $example -o "$room/out/file" <&- >&- 2>&- || status=$?
+held
+new_is_whole "$room/example.results"
+
+# ---- A machine that fails on the way: the old file or the new one, whole.
+
+fault 0 few results -q "$room/full" -o "$room/out/file"
+new_is_whole "$room/full.results"
+fault 0 few results -q "$room/full"
+writes "$room/full.results"
+fault 0 'no folder fsync' results -q "$room/full" -o "$room/out/file"
+new_is_whole "$room/full.results"
+for each in 'full:No space left on device: make room on that disk' 'fsync:No space left on device: make room on that disk' \
+    'close:Disk quota exceeded: make room on that disk' 'rename:Input/output error: look at that disk or device' \
+    'fchmod:Operation not permitted: look at the rights of the file and of its folder'; do
+    fault 2 "${each%%:*}" results -q "$room/full" -o "$room/out/file"
+    says "kelubashi results: $room/out/file: cannot be written: ${each#*:}"
+    old_is_whole
+done
+fault 2 full results -q "$room/full"
+says "kelubashi results: standard output: cannot be written: No space left on device: make room on that disk"
+fault 2 unread results -q "$room/full" -o "$room/out/file"
+says "kelubashi results: $room/full: cannot be read: Input/output error: look at that disk or device"
+old_is_whole
+fault 2 folder results -q "$room/full" -o "$room/out/file"
+says "kelubashi results: $room/out/file: is written, and its folder is not on the disk yet: Input/output error: look at that disk"
+new_is_whole "$room/full.results"
+fault 137 kill results -q "$room/full" -o "$room/out/file" 2>"$room/killed"
+cmp -s "$room/kept" "$room/out/file" || fail 'killed between write and rename, the old file is not as it was'
+[ "$(ls -A "$room/out" | wc -l)" -eq 2 ] || fail 'killed between write and rename, it should leave one file'
+rm "$room/out"/file.??????
+kelubashi 0 results -q "$room/full" -o "$room/out/file"
+new_is_whole "$room/full.results"
+
+# ---- show believes neither file before it is judged.
+
+foreign() {
+    kelubashi 2 show "$1" "$2"
+    writes_nothing
+    case $(tail -n 1 "$room/said") in
+    "kelubashi show: $2: $3"*) ;;
+    *) fail "$asked: it says '$(cat "$room/said")' and not '$3'" ;;
+    esac
+    [ "$(grep -vc "^kelubashi show: $1: at byte .*refused (" "$room/said")" -eq 1 ] || fail "$asked: it says more than a line"
+}
+results=$room/damaged
+foreign "$good" "$room/example.results" "is of another element file: it has 15 rows, and $good 1 requests: name the element file"
+foreign $example "$room/good.results" "is of another element file: it has 1 rows, and $example 15 requests: name the element file"
+foreign "$good" $example 'is no whole result file: it counts 2 rows, and has 672 bytes: make it anew with kelubashi results'
+second <"$room/empty" >"$results"
+foreign "$good" "$results" "is of another element file, one that is refused (21), and $good is not: "
+foreign "$room/long" "$results" "is of another element file, one that is refused (21), and $room/long is refused (25): "
+foreign "$room/empty" "$room/good.results" "is of another element file: it has rows, and $room/empty is refused: "
+sed 's/600/601/' "$room/good.txt" >"$room/other.txt"
+kelubashi 0 elements -q "$room/other.txt" -o "$room/other"
+foreign "$room/other" "$room/good.results" "is of another element file, of another library, or damaged: in row 0 x is C0A1989379B31134, and the library answers "
+head -c 103 "$room/good.results" >"$results"
+foreign "$good" "$results" 'is no whole result file: it counts 1 rows, and has 103 bytes: make it anew'
+foreign "$good" "$room/empty" 'is no result file: it has 0 bytes, and the shortest has 16: make it anew'
+{ printf '\002' && tail -c +2 "$room/good.results"; } >"$results"
+foreign "$good" "$results" 'is no result file of edition 1: its first word is 2: look whether it is a result file'
+{ head -c 8 "$room/good.results" && printf '\001\000\000\000\000\000\000\040' && tail -c +17 "$room/good.results"; } >"$results"
+foreign "$good" "$results" 'is no whole result file: it counts 2305843009213693953 rows, and has 104 bytes: make it anew'
+for byte in 17 25 33 103; do
+    { head -c $byte "$room/good.results" && printf '\377' && tail -c +$((byte + 2)) "$room/good.results"; } >"$results"
+    foreign "$good" "$results" 'is of another element file, of another library, or damaged: in row 0 '
+done
+cp "$room/good.results" "$results"
+kelubashi 2 show "$room/no_centre" "$results"
+says "kelubashi show: $room/no_centre: at byte 32, the centre of state 0: refused (24): a state's centre, or a request's state, is not there; correct that number: they start at 0 and stay below the section's count
+kelubashi show: $results: is of another element file: it has rows, and $room/no_centre is refused: name the element file that it is of, or make it anew with kelubashi results"
+
+# ---- elements: lines that are not good, each with its number; nothing is written.
+
+line() {
+    printf "$1" >"$room/listing"
+    kelubashi 2 elements "$room/listing" -o "$room/out/file"
+    writes_nothing
+    says "kelubashi elements: $room/listing: line $2"
+    old_is_whole
+}
+word='is no number of a record: those are 0, 1, 2 .., and have no sign'
+state='0 1 0 0 0 0 0'
+there="refused (24): a state's centre, or a request's state, is not there; correct that number: they start at 0 and stay below the section's count"
+line 'center 1\n' "1: 'center' is no name of a record: a line starts with centre, state or request"
+line '# one\n\ncentre\n' '3: a centre has 1 words behind its name, and here are 0'
+line "centre 1\nstate 0 0 1 0 0 0 0\n" '2: a state has 8 words behind its name, and here are 7'
+line 'centre 1 2\n' "1: '2' is one word too many"
+line 'centre 1km\n' "1: '1km' is no figure"
+line 'centre 1,5\n' "1: '1,5' is no figure"
+line 'centre 1e999\n' "1: '1e999' is out of the range of doubles"
+line 'centre -1e999\n' "1: '-1e999' is out of the range of doubles"
+line 'centre 1e-999\n' "1: '1e-999' is out of the range of doubles"
+line 'centre inf\n' "1: 'inf' is not finite: write a figure, or give --any-bits"
+line 'centre -nan\n' "1: '-nan' is not finite: write a figure, or give --any-bits"
+line "centre 1\nstate -0 $state\n" "2: '-0' $word"
+line "centre 1\nstate +0 $state\n" "2: '+0' $word"
+line "centre 1\nstate 0x0 $state\n" "2: '0x0' $word"
+line "centre 1\nstate 18446744073709551616 $state\n" "2: '18446744073709551616' is out of the range of numbers"
+line "centre 1\nstate 1 $state\n" "2: $there"
+line "centre 1\nstate 0 $state\nrequest 0 1\nrequest 18446744073709551615 1\n" "4: $there"
+line "request 0 1\n" "1: $there"
+line 'centre 1\ncentre \0001\n' '2: has a NUL byte: write the listing as plain text'
+line '# a \000 in a comment\n' '1: has a NUL byte: write the listing as plain text'
+line 'centre \0331\n' "1: '?1' is no figure"
+line "centre 1\n# $(head -c 499 /dev/zero | tr '\0' x)\n" '2: is longer than 500 bytes: divide it, or shorten its comment'
+line "$(yes 'centre 1\n' | head -n 17 | tr -d '\n')" '17: refused (23): more than 16 centres, 500 states or 1,500 requests; correct the count, or divide the records over several files'
+line "$(yes 'centre 1\n' | head -n 40 | tr -d '\n')" '17: refused (23): more than 16 centres, 500 states or 1,500 requests; correct the count, or divide the records over several files'
+line "centre 1\n$(yes "state 0 $state\n" | head -n 501 | tr -d '\n')" '502: refused (23): more than 16 centres, 500 states or 1,500 requests; correct the count, or divide the records over several files'
+unread "kelubashi elements: /dev/zero: is no listing: it is longer than 4194304 bytes" elements /dev/zero
+unread "kelubashi elements: '$room/good.txt' is one word too many: usage: kelubashi elements LISTING [-o ELEMENTS]" elements "$room/good.txt" "$room/good.txt"
+
+# And lines that are: carriage returns, tabs, no line end at the end, the longest line, order, comments alone, any bits.
+lists() {
+    kelubashi 0 elements -q "$room/listing" -o "$room/out/file"
+    says ''
+    new_is_whole "$1"
+}
+sed 's/$/\r/' "$room/good.txt" >"$room/listing"
+lists "$good"
+tr ' ' '\t' <"$room/good.txt" | head -c -1 >"$room/listing"
+lists "$good"
+{ sed -n 3p "$room/good.txt" && echo "#$(head -c 499 /dev/zero | tr '\0' x)" && sed -n 2p "$room/good.txt" && sed -n 1p "$room/good.txt"; } >"$room/listing"
+lists "$good"
+printf '# nothing\n' >"$room/listing"
+{ printf '\001' && head -c 31 /dev/zero; } >"$room/expected"
+lists "$room/expected"
+{ printf '\001\000\000\000\000\000\000\000\003' && head -c 13 /dev/zero && printf '\360\177' && head -c 6 /dev/zero && printf '\360\377' &&
+    printf '\001\000\000\000\000\000\000\000' && head -c 16 /dev/zero; } >"$room/expected"
+printf 'centre inf\ncentre -inf\ncentre 5e-324\n' >"$room/listing"
+kelubashi 0 elements --any-bits -q "$room/listing" -o "$room/out/file"
+new_is_whole "$room/expected"
+
+echo "command: $name: $cases calls, each with its exit status and its line"

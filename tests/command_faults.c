@@ -1,0 +1,95 @@
+/*
+**  Faults of a machine, for the command: linked with --wrap, these stand before the system's calls, and
+**  the word in the environment's FAULT says which of them fails, and how.
+*/
+#include <errno.h>
+#include <signal.h>
+#include <stdlib.h>
+#include <string.h>
+#include <sys/types.h>
+
+int __real_rename(const char *from, const char *to);
+int __real_fsync(int file);
+int __real_close(int file);
+int __real_fchmod(int file, mode_t mode);
+ssize_t __real_write(int file, const void *bytes, size_t length);
+ssize_t __real_read(int file, void *bytes, size_t length);
+
+int __wrap_rename(const char *from, const char *to);
+int __wrap_fsync(int file);
+int __wrap_close(int file);
+int __wrap_fchmod(int file, mode_t mode);
+ssize_t __wrap_write(int file, const void *bytes, size_t length);
+ssize_t __wrap_read(int file, void *bytes, size_t length);
+
+static int fault(const char *name)
+{
+    const char *set = getenv("FAULT");
+
+    return set != NULL && strcmp(set, name) == 0;
+}
+
+static int failed(int reason)
+{
+    errno = reason;
+    return -1;
+}
+
+/* Killed when all is on the disk and nothing in its place yet. */
+int __wrap_rename(const char *from, const char *to)
+{
+    if (fault("kill"))
+        raise(SIGKILL);
+    return fault("rename") ? failed(EIO) : __real_rename(from, to);
+}
+
+/* The first is of the file, the second of its folder. */
+int __wrap_fsync(int file)
+{
+    static int calls = 0;
+
+    calls++;
+    if (fault("fsync") || (fault("folder") && calls == 2))
+        return failed(fault("fsync") ? ENOSPC : EIO);
+    return fault("no folder fsync") && calls == 2 ? failed(EINVAL) : __real_fsync(file);
+}
+
+/* The input is closed first, then the output. */
+int __wrap_close(int file)
+{
+    static int calls = 0;
+    int done = __real_close(file);
+
+    calls++;
+    return fault("close") && calls == 2 ? failed(EDQUOT) : done;
+}
+
+int __wrap_fchmod(int file, mode_t mode)
+{
+    return fault("fchmod") ? failed(EPERM) : __real_fchmod(file, mode);
+}
+
+/* A few bytes at a time, with signals between; or some, and then a full disk. */
+ssize_t __wrap_write(int file, const void *bytes, size_t length)
+{
+    static int calls = 0;
+
+    calls++;
+    if (fault("few") && calls % 2 == 0)
+        return failed(EINTR);
+    if (fault("full") && calls == 2)
+        return failed(ENOSPC);
+    return __real_write(file, bytes, (fault("few") || fault("full")) && length > 100 ? 100 : length);
+}
+
+ssize_t __wrap_read(int file, void *bytes, size_t length)
+{
+    static int calls = 0;
+
+    calls++;
+    if (fault("few") && calls % 2 == 0)
+        return failed(EINTR);
+    if (fault("unread") && calls == 2)
+        return failed(EIO);
+    return __real_read(file, bytes, (fault("few") || fault("unread")) && length > 100 ? 100 : length);
+}

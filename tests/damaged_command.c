@@ -1,0 +1,351 @@
+/*
+**  The command's subcommands on sound and damaged listings, element files and result files, one after another in
+**  one program, for sanitizers to look on. The library is the second program.
+**
+**     damaged_command FOLDER [N [SEED [FIRST]]]
+**
+**  Each exit status, and each file that is written, is held to what follows from the bytes that were given.
+*/
+#include "../command/command.h"
+#include "drive.h"
+#include "kelubashi.h"
+#include "second/second.h"
+#include "sections.h"
+
+#include <inttypes.h>
+#include <math.h>
+#include <stdio.h>
+#include <stdlib.h>
+#include <string.h>
+#include <sys/stat.h>
+
+enum { USUAL = 6000, NAME = 200, TEXT = 1 << 20 };
+
+int __wrap_fsync(int file);
+
+/* A disk would make of each input some milliseconds. */
+int __wrap_fsync(int file)
+{
+    return file < 0 ? -1 : 0;
+}
+
+static FILE *report, *nowhere;
+static char given_name[NAME], other_name[NAME], written_name[NAME];
+static uint64_t number_now;
+static uint64_t well, refused, not_done;
+
+/* ---- files ---- */
+
+/* A new file: to empty an old one may wait for the disk. */
+static void put_file(const char *name, const void *bytes, size_t length)
+{
+    FILE *file;
+
+    remove(name);
+    file = fopen(name, "wb");
+    if (file == NULL || fwrite(bytes, 1, length, file) != length || fclose(file) != 0) {
+        fprintf(report, "damaged_command: %s cannot be written\n", name);
+        exit(EXIT_FAILURE);
+    }
+}
+
+/* The bytes of the file that a subcommand wrote; nothing where there is none. */
+static size_t take_written(uint8_t *bytes, size_t size)
+{
+    FILE *file = fopen(written_name, "rb");
+    size_t length = 0;
+
+    if (file != NULL) {
+        length = fread(bytes, 1, size, file);
+        fclose(file);
+        remove(written_name);
+    }
+    return length;
+}
+
+/* ---- a call, and what becomes of it ---- */
+
+/* Runs a subcommand, with what it prints and says going nowhere. */
+static enum status run(const struct subcommand *subcommand, int writes, int any_bits)
+{
+    char *operands[2];
+    struct call call;
+    enum status status;
+    FILE *output = stdout, *error = stderr;
+
+    operands[0] = given_name;
+    operands[1] = other_name;
+    memset(&call, 0, sizeof call);
+    call.operands = operands;
+    call.operand_count = subcommand->operands;
+    call.output = writes ? written_name : NULL;
+    call.any_bits = any_bits;
+    remove(written_name);
+    stdout = nowhere;
+    stderr = nowhere;
+    status = subcommand->run(&call);
+    stdout = output;
+    stderr = error;
+    well += status == ALL_WELL;
+    refused += status == SOMETHING_REFUSED;
+    not_done += status == NOT_DONE;
+    return status;
+}
+
+static void hold(int good, const char *what)
+{
+    if (!good) {
+        fprintf(report, "\ndamaged_command: %s\n", what);
+        drive_differs();
+    }
+}
+
+static void repeat(void)
+{
+    fprintf(report, "damaged_command: repeat it with: sh tests/sanitize.sh fuzz 1 %" PRIu64 " %" PRIu64 "\n", drive_seed(), number_now);
+    fflush(report);
+}
+
+static void progress(void)
+{
+}
+
+/* ---- element files and result files ---- */
+
+static struct file file;
+static uint8_t right[KELUBASHI_MOST_RESULTS], wrote[KELUBASHI_MOST_RESULTS + 1];
+static size_t right_length;
+
+/* The status that follows from a result file: whether the file or a row in it is refused. */
+static enum status status_of(const uint8_t *results, size_t length)
+{
+    size_t i;
+
+    if (length == 24)
+        return SOMETHING_REFUSED;
+    for (i = 16; i < length; i += 88)
+        if (results[i] != 0)
+            return SOMETHING_REFUSED;
+    return ALL_WELL;
+}
+
+/* Puts an element file there, and works out what has to come of it. */
+static void give_elements(uint64_t number)
+{
+    uint64_t turn, answer[2];
+    const struct file_family *family = file_family(number, &turn);
+
+    if (family->file != NULL)
+        family->file(&file, turn);
+    else {
+        static struct sections sections;
+
+        sound(&sections, turn);
+        lay_out(&file, &sections);
+    }
+    hold(second_results(file.bytes, file.length, right, sizeof right, answer, 2) == 0, "the second program gives no results");
+    right_length = (size_t)answer[1];
+    put_file(given_name, file.bytes, file.length);
+}
+
+static void try_elements(uint64_t number)
+{
+    enum status status;
+    uint64_t answer[8];
+    size_t length;
+
+    give_elements(number);
+    status = run(&read_subcommand, 0, 0);
+    hold(status == (second_read(file.bytes, file.length, answer, 8) == 0 ? ALL_WELL : SOMETHING_REFUSED), "read ends otherwise");
+    status = run(&results_subcommand, 1, 0);
+    hold(status == status_of(right, right_length), "results ends otherwise");
+    length = take_written(wrote, sizeof wrote);
+    hold(length == right_length && memcmp(wrote, right, length) == 0, "results writes other bytes");
+}
+
+/* Damages a result file: a byte, a word, its length, or not at all. */
+static size_t damage(uint8_t *bytes, size_t length)
+{
+    switch (any_below(6)) {
+    case 0:
+        bytes[any_below(length)] ^= (uint8_t)(1 << any_below(8));
+        return length;
+    case 1:
+        memset(bytes + any_below(length - 7), any_from(0, 1) * 255, 8);
+        return length;
+    case 2:
+        return any_below(length);
+    case 3:
+        memset(bytes + length, 0, 8);
+        return length + 1 + any_below(8);
+    case 4:
+        bytes[8] = (uint8_t)any_word();
+        return length;
+    default:
+        return length;
+    }
+}
+
+static void try_show(uint64_t number)
+{
+    static uint8_t results[KELUBASHI_MOST_RESULTS + 8];
+    enum status status, wanted;
+    size_t length;
+
+    give_elements(number);
+    memcpy(results, right, right_length);
+    length = damage(results, right_length);
+    put_file(other_name, results, length);
+    wanted = length == right_length && memcmp(results, right, length) == 0 ? status_of(right, right_length) : NOT_DONE;
+    status = run(&show_subcommand, 0, 0);
+    hold(status == wanted, "show ends otherwise");
+}
+
+/* ---- listings ---- */
+
+static char text[TEXT];
+static size_t length;
+
+static void add(const char *form, double figure)
+{
+    length += (size_t)snprintf(text + length, TEXT - length, form, figure);
+}
+
+static double figure_of(uint64_t word)
+{
+    double figure = kelubashi_figure(word);
+
+    return isfinite(figure) ? figure : 1;
+}
+
+/* A record's line, with its number and its figures as C writes them so that they are read back the same. */
+static void add_line(const char *name, uint64_t *words, size_t width, size_t numbers)
+{
+    size_t i;
+
+    length += (size_t)snprintf(text + length, TEXT - length, "%s%s", one_in(3) ? "  " : "", name);
+    for (i = 0; i < width; i++) {
+        add(one_in(4) ? "\t" : " ", 0);
+        if (i < numbers) {
+            length += (size_t)snprintf(text + length, TEXT - length, "%" PRIu64, words[i]);
+        } else {
+            words[i] = kelubashi_word(figure_of(words[i]));
+            add(one_in(2) ? "%.17g" : one_in(2) ? "%.17e" : "%a", kelubashi_figure(words[i]));
+        }
+    }
+    add(one_in(5) ? "   # 7 \r\n" : one_in(3) ? "\r\n" : "\n", 0);
+}
+
+/* A sound listing, and the bytes of its element file. */
+static void sound_listing(void)
+{
+    static struct sections sections;
+    size_t i;
+
+    any_sections(&sections, 1 + any_below(3), 1 + any_below(4), any_below(6), 3);
+    length = 0;
+    for (i = 0; i < sections.request_words; i += REQUEST)
+        add_line("request", sections.requests + i, REQUEST, 1);
+    for (i = 0; i < sections.centre_words; i++)
+        add_line("centre", sections.centres + i, 1, 0);
+    for (i = 0; i < sections.state_words; i += STATE)
+        add_line("state", sections.states + i, STATE, 1);
+    file.length = 0;
+    lay_out(&file, &sections);
+}
+
+/* Some bytes, or words, that a listing's reader may stumble over, in the place of others. */
+static void damage_text(void)
+{
+    static const char *const PIECES[] = {
+        "-", "+", "#", "\n", "\r", "\t", " ", "0x", "1e999", "1e-999", "-1e400", "inf", "nan", "nan(12)", "infinity", "centre ", "state ",
+        "request ", "18446744073709551615", "18446744073709551616", "99999999999999999999999999", "\xff\xfe", "\033[2J", ".", "e", "1e", "%s%n",
+        "centre 1\n", "\n\n", "17", "0", "state 0 0 1 1 1 1 1 1\n"
+    };
+    size_t pieces = sizeof PIECES / sizeof PIECES[0], place, many;
+    const char *piece;
+
+    place = any_below(length + 1);
+    switch (any_below(6)) {
+    case 0:     /* a NUL */
+        text[place] = '\0';
+        length += place == length;
+        break;
+    case 1:     /* the rest is lost */
+        length = place;
+        break;
+    case 2:     /* a long run of one byte */
+        many = any_below(700);
+        memmove(text + place + many, text + place, length - place);
+        memset(text + place, (int)any_below(256), many);
+        length += many;
+        break;
+    case 3:     /* a byte */
+        text[place] = (char)any_below(256);
+        length += place == length;
+        break;
+    default:
+        piece = PIECES[any_below(pieces)];
+        many = strlen(piece);
+        memmove(text + place + many, text + place, length - place);
+        memcpy(text + place, piece, many);
+        length += many;
+        break;
+    }
+}
+
+static void try_listing(uint64_t number)
+{
+    int damages = one_in(4) ? 0 : any_from(1, 3), any_bits = number % 2 == 0, i;
+    enum status status;
+    uint64_t answer[8];
+    size_t written;
+
+    sound_listing();
+    for (i = 0; i < damages; i++)
+        damage_text();
+    put_file(given_name, text, length);
+    status = run(&elements_subcommand, 1, any_bits);
+    written = take_written(wrote, sizeof wrote);
+    hold(status == ALL_WELL || status == NOT_DONE, "elements ends otherwise");
+    hold((status == ALL_WELL) == (written != 0), "elements writes and fails, or does neither");
+    hold(written == 0 || second_read(wrote, written, answer, 8) == 0, "elements writes a file that is refused");
+    if (damages == 0)
+        hold(written == file.length && memcmp(wrote, file.bytes, written) == 0, "elements writes other words than the listing has");
+}
+
+/* ---- all of it ---- */
+
+static void try_one(uint64_t number)
+{
+    number_now = number;
+    if (number % 3 == 0)
+        try_listing(number / 3);
+    else if (number % 3 == 1)
+        try_elements(number / 3);
+    else
+        try_show(number / 3);
+}
+
+static int tell(void)
+{
+    fprintf(report, "damaged_command: seed %" PRIu64 ", %" PRIu64 " inputs: %" PRIu64 " calls with status 0, %" PRIu64 " with 1, %" PRIu64
+            " with 2\n", drive_seed(), drive_count(), well, refused, not_done);
+    return well == 0 || refused == 0 || not_done == 0;
+}
+
+int main(int count, char **words)
+{
+    report = stdout;
+    nowhere = fopen("/dev/null", "w");
+    if (count < 2 || nowhere == NULL) {
+        fprintf(stderr, "usage: damaged_command FOLDER [N [SEED [FIRST]]]\n");
+        return EXIT_FAILURE;
+    }
+    snprintf(given_name, NAME, "%s/given", words[1]);
+    snprintf(other_name, NAME, "%s/other", words[1]);
+    snprintf(written_name, NAME, "%s/written", words[1]);
+    drive_own(progress, repeat);
+    drive_start("damaged_command", USUAL, count - 1, words + 1);
+    return drive_all(try_one, tell, "a status above was never met");
+}

@@ -1,0 +1,123 @@
+#!/bin/sh
+# The C of host/ and the command on this machine's own processor, with the second program in the library's place: under
+# the sanitizers of addresses and of undefined behaviour, and under valgrind.
+#
+#     sanitize.sh                        the cases of tests/command.sh, and some damaged inputs
+#     sanitize.sh fuzz N SEED [FIRST]    N damaged inputs of a seed, from number FIRST on
+set -eu
+cd "$(dirname "$0")/.."
+room=build/own
+mkdir -p "$room"
+
+fail() {
+    echo "sanitize: $1" >&2
+    exit 1
+}
+
+# ---- What is needed: where root, install it; else ask for it.
+
+works() {
+    printf '#include <stdio.h>\nint main(void) { return 0; }\n' >"$room/trial.c"
+    cc -fsanitize=address,undefined -o "$room/trial" "$room/trial.c" && ASAN_OPTIONS=detect_leaks=0 "$room/trial" &&
+        cc -g -o "$room/trial_plain" "$room/trial.c" && valgrind -q "$room/trial_plain"
+}
+
+if ! works >"$room/log" 2>&1; then
+    packages='gcc libc6-dev libc6-dbg valgrind'
+    advice="as root on Debian: apt-get install $packages ($room/log has what was tried)"
+    if [ "$(id -u)" -ne 0 ] || ! command -v apt-get >/dev/null; then
+        fail "cc with sanitizers, or valgrind, does not work here; $advice"
+    fi
+    echo "sanitize: installing $packages"
+    export DEBIAN_FRONTEND=noninteractive
+    get="apt-get install -y -qq --no-install-recommends $packages"
+    # a fresh machine has no lists of packages, or old ones
+    { $get || { apt-get update -qq && $get; }; } >>"$room/log" 2>&1 || true
+    works >>"$room/log" 2>&1 || fail "installing did not help: cc with sanitizers, or valgrind, does not work here; $advice"
+fi
+
+# ---- The programs, once with sanitizers and once plain.
+
+command='command/*.c command/parts/*.c host/kelubashi_selfcheck.c tests/second_library.c'
+second=$(printf 'tests/second/%s.c ' root series search states files)
+drive=$(printf 'tests/%s.c ' drive orbits sections damaged)
+wrapped=$(printf ' -Wl,--wrap=%s' rename fsync close fchmod write read)
+
+# One name is linked of these files; nothing is compiled twice, however many names there are.
+compile() {
+    how=$1 folder=$room/$2
+    mkdir -p "$folder"
+    # shellcheck disable=SC2086 # lists of words
+    for source in $command $second $drive host/example.c tests/command_faults.c tests/damaged_command.c; do
+        object=$folder/$(echo "${source%.c}" | tr / _).o
+        if [ ! -e "$object" ] || [ -n "$(find include command host tests/*.[ch] tests/second -newer "$object" -name '*.[ch]' | head -n 1)" ]; then
+            echo "-c -o $object $source"
+        fi
+    done | xargs -r -P "$(getconf _NPROCESSORS_ONLN)" -L 1 \
+        cc -std=c99 -D_XOPEN_SOURCE=700 -Wall -Wextra -Werror -g -O1 -ffp-contract=off $how -Iinclude
+}
+
+objects() {
+    # shellcheck disable=SC2068 # a list of words
+    for source in $@; do
+        printf '%s ' "$folder/$(echo "${source%.c}" | tr / _).o"
+    done
+}
+
+# shellcheck disable=SC2046,SC2086 # lists of words
+link() {
+    without_main=$(objects $command $second | tr ' ' '\n' | grep -v command_main)
+    cc $how -o "$folder/kelubashi" $(objects $command $second) -lm
+    cc $how $wrapped -o "$folder/kelubashi_faulty" $(objects $command $second tests/command_faults.c) -lm
+    cc $how -o "$folder/example" $(objects host/example.c host/kelubashi_selfcheck.c tests/second_library.c $second) -lm
+    cc $how -Wl,--wrap=fsync -o "$folder/damaged_command" $without_main $(objects $drive tests/damaged_command.c) -lm
+}
+
+# Leaks are valgrind's to find: the sanitizer takes seconds for them.
+ASAN_OPTIONS=detect_leaks=0:abort_on_error=1
+UBSAN_OPTIONS=halt_on_error=1:abort_on_error=1:print_stacktrace=1
+export ASAN_OPTIONS UBSAN_OPTIONS
+
+compile '-fsanitize=address,undefined -fno-sanitize-recover=all' sanitized
+link
+files=$(mktemp -d -p /dev/shm 2>"$room/log" || mktemp -d)    # in memory where that can be
+trap 'rm -rf "$files"' EXIT
+
+if [ "${1:-}" = fuzz ]; then
+    shift
+    "$folder/damaged_command" "$files" "$@"
+    exit
+fi
+
+sh tests/command.sh 'under sanitizers' "$folder/kelubashi" "$folder/kelubashi_faulty"
+"$folder/example" >"$room/printed" || fail 'host/example.c fails'
+"$folder/damaged_command" "$files"
+
+# ---- valgrind, for words that were never set and for leaks: each subcommand, good, refused and not done.
+
+compile '' plain
+link
+grind() {
+    wanted=$1 status=0
+    shift
+    valgrind -q --leak-check=full --error-exitcode=99 "$@" >"$room/printed" 2>"$room/said" || status=$?
+    [ $status -eq "$wanted" ] || fail "valgrind: $* has status $status and not $wanted: $(cat "$room/said")"
+    cases=$((cases + 1))
+}
+cases=0
+kelubashi=$folder/kelubashi
+example=examples/orbits.elements
+grind 1 "$kelubashi" results $example -o "$files/results"
+grind 1 "$kelubashi" show $example "$files/results"
+grind 0 "$kelubashi" read $example
+grind 0 "$kelubashi" elements examples/orbits.txt -o "$files/elements"
+head -c 100 "$files/results" >"$files/torn"
+grind 2 "$kelubashi" show $example "$files/torn"
+head -c 100 $example >"$files/short"
+grind 1 "$kelubashi" results "$files/short"
+printf 'centre 1\nstate 3 0 1 0 0 0 0 0\n' >"$files/listing"
+grind 2 "$kelubashi" elements "$files/listing"
+grind 0 "$kelubashi" state 398600.4418 1131.340 -2282.343 6672.423 -5.64305 4.30333 2.42879 600
+grind 0 "$folder/example"
+grind 0 "$folder/damaged_command" "$files" 120
+echo "sanitize: host/ and the command are clean under the sanitizers; and under valgrind, $cases calls"
