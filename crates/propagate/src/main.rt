@@ -7,7 +7,9 @@
 // result file is written then: a failed read is not an empty file. A program cannot set an exit
 // status here, so whoever runs it looks at what it wrote: nothing is never a result file.
 ghost use mathlib.Core.Path.{_≡_};
-ghost use lib.ListN.{take};
+ghost use mathlib.Core.List.{List, _++_};
+ghost use Prim.Native.Nat.{ℕ, _<_};
+ghost use lib.ListN.{length, take};
 ghost use Rattle.io.specs.Counts.{Counts};
 ghost use Rattle.files_results.specs.Results.{resultFile};
 use files_results::LONGEST_RESULT;
@@ -46,10 +48,7 @@ fn propagate_named() {
 // The bytes that are read of a file: one more than the longest that can be accepted has.
 const READ: usize = files_reader::LONGEST_FILE + 1;
 
-// A file that is open, and is called by this name. Of a longer file only the first 56,161 bytes are
-// read, one more than can be accepted, and their result file is that of the whole, whatever follows
-// (`cut`, in proofs/Cut.antt): the reader walks forward, no word that it asks for stands behind byte
-// 56,160, and where it finds no fault before, a byte is left after the last section: 25.
+// A file that is open, and is called by this name.
 //
 // The file is closed before anything is written: where an output was closed when the program
 // started, the file has been given its number.
@@ -58,7 +57,7 @@ fn propagate(fd: i32, name: &[u8]) {
     match streams::read_whole(fd, &mut file) {
         Taken::Bytes(n) => {
             libc::close(fd);
-            answer(&file[..n]);
+            answer(&file, n);
         }
         Taken::Failed => {
             os::fail(name);
@@ -66,20 +65,26 @@ fn propagate(fd: i32, name: &[u8]) {
     }
 }
 
-// Writes the result file of an element file to standard output.
-fn answer(file: &[u8]) {
+// Writes the result file of an element file to standard output, of which so many bytes were read.
+fn answer(file: &[u8], n: usize)
+    requires { ⌜ Counts n (now file) × (56160 < length (now file)) ⌝ }
+{
     let mut room = [0u8; LONGEST_RESULT];
-    let size = results_of(file, &mut room);
+    let size = results_of(file, n, &mut room);
     if let Taken::Failed = streams::write_whole(STDOUT_FILENO, &room[..size]) {
         os::fail(b"standard output");
     }
 }
 
-// The result file of an element file stands at the start of the room, which is as long as the longest. Answers its size.
-fn results_of(file: &[u8], room: &mut [u8; LONGEST_RESULT]) -> usize
-    ensures { λ r. ⌜ Counts r (now (room .exit)) ⌝ }
-    ensures { λ r. ⌜ take r (now (room .exit)) ≡ resultFile (now (file .entry)) ⌝ }
+// The result file of what was read stands at the start of the room, which is as long as the longest. Answers its size. Where the
+// buffer is full, it is the result file of every longer file that begins so: the reader walks forward, no word that it asks for
+// stands behind byte 56,160, and where it finds no fault before, a byte is left after the last section: 25.
+fn results_of(file: &[u8], n: usize, room: &mut [u8; LONGEST_RESULT]) -> usize
+    requires { ⌜ Counts n (now file) × (56160 < length (now file)) ⌝ }
+    ensures size { λ r. ⌜ Counts r (now (room .exit)) ⌝ }
+    ensures read { λ r. ⌜ take r (now (room .exit)) ≡ resultFile (take n (now (file .entry))) ⌝ }
+    ensures longer { λ r. ⌜ (n ≡ length (now (file .entry)) → (rest : List ℕ) → take r (now (room .exit)) ≡ resultFile (now (file .entry) ++ rest)) ⌝ }
 {
-    let outcome = files_results::write_results(file, room);
+    let outcome = files_results::write_results(&file[..n], room);
     outcome.size
 }

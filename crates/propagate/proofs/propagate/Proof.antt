@@ -1,4 +1,5 @@
--- The bytes that were taken stand at the start of the buffer.
+-- The bytes that were taken stand at the start of the buffer, which is longer than any file that is accepted.
+use native.Mathlib.Omega.{arith}
 use borrow.Author.Needs.{needs}
 use Rattle.streams.proofs.Parts.{taken}
 use Rattle.propagate.proofs.propagate.Statement.{statement}
@@ -16,14 +17,11 @@ enum-known-n c = search needs
 close-requires : tie.Need-close-requires
 close-requires c κs = search needs
 
-array-share-prefix-file : tie.Need-array-share-prefix-file
-array-share-prefix-file c = taken _ (c .before .before .n .given .1) (c .before .before .before .before .before .read-whole .ensures) .0
-
 slice-aggregate-answer : tie.Need-slice-aggregate-answer
-slice-aggregate-answer c = taken _ (c .before .before .before .n .given .1) (c .before .before .before .before .before .before .read-whole .ensures) .1
+slice-aggregate-answer c = search needs
 
 answer-requires : tie.Need-answer-requires
-answer-requires c κs = search needs
+answer-requires c κs = (taken _ (c .before .before .before .n .given .1) (c .before .before .before .before .before .before .read-whole .ensures), search needs)
 
 enum-told : tie.Need-enum-told
 enum-told c = search needs
@@ -45,7 +43,6 @@ propagate-spec =
     read-whole-requires
     enum-known-n
     close-requires
-    array-share-prefix-file
     slice-aggregate-answer
     answer-requires
     enum-told

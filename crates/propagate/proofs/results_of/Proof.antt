@@ -1,15 +1,17 @@
--- The room is long enough, so the outcome's length is that of the result file, which stands at its start.
-use Prim.Native.Nat.{ℕ}
+-- The room is long enough, so the outcome's size is that of the result file, which stands at its start; and a full buffer is long enough for `cut`.
+use Prim.Native.Nat.{ℕ, _<_}
 use native.Mathlib.Omega.{arith}
-use mathlib.Core.Path.{_≡_, sym, ap, subst}
-use mathlib.Core.List.{List}
+use mathlib.Core.Path.{_≡_, sym, ap, subst, _∙_}
+use mathlib.Core.List.{List, _++_}
 use borrow.Author.Needs.{needs}
 use lib.ListN.{length, take}
+use lib.Seq.{take-all}
 use Rattle.io.specs.Counts.{Counts}
 use Rattle.files_words.specs.Bytes.{put}
 use Rattle.files_results.specs.Results.{longestResult, resultFile, outcomeIn}
 use Rattle.files_results.specs.declared.Outcome.{Outcome}
 use Rattle.propagate.proofs.Longest.{longest, put-first}
+use Rattle.propagate.proofs.Cut.{cut}
 use Rattle.propagate.proofs.results_of.Statement.{statement}
 use Rattle.propagate.proofs.results_of.Tie as tie
 
@@ -24,14 +26,23 @@ told file room now outcome l e p =
     (subst (λ (n : ℕ). Holds file n (put room 0 (resultFile file))) (sym (ap (λ (o : Outcome). o .size) e))
     (put-first room (resultFile file) (omega (arith, longest file))))
 
+-- A full buffer, and whatever follows in the file.
+longer : (file : List ℕ) (n : ℕ) → 56160 < length file → n ≡ length file → (rest : List ℕ) → resultFile (take n file) ≡ resultFile (file ++ rest)
+longer file n long full rest = ap resultFile (take-all n file (omega arith)) ∙ sym (cut file rest long)
+
+slice-aggregate-write-results : tie.Need-slice-aggregate-write-results
+slice-aggregate-write-results c = search needs
+
 write-results-requires : tie.Need-write-results-requires
 write-results-requires c κs = search needs
 
 returns : tie.Need-returns
 returns c =
-    let a = c .before .before .before .args in
+    let start = c .before .before .before .before in
+    let a = start .args in
     let e = c .write-results .ensures in
-    told (a .file .now) (a .room .now) _ (c .write-results .result) (search needs) (e .0) (e .1)
+    let t = told (take (a .n) (a .file .now)) (a .room .now) _ (c .write-results .result) (search needs) (e .0) (e .1) in
+    (t .0, (t .1, λ full rest. t .1 ∙ longer (a .file .now) (a .n) (start .pre .1) full rest))
 
 pub results-of-spec : {M : Type 1} → statement M
-results-of-spec = tie.close (tie.spec write-results-requires returns)
+results-of-spec = tie.close (tie.spec slice-aggregate-write-results write-results-requires returns)
