@@ -39,7 +39,7 @@ export RT_JOBS = 4
 # One step at a time, in the order written: what is cheap to find wrong comes before what takes minutes.
 .NOTPARALLEL:
 .PHONY: run state check test wrong fuzz bench program command lib install install-files uninstall clean
-.PHONY: kit layout map proved prefix machine header edition readme refusals selfcheck facts installed tried commanded sanitized
+.PHONY: kit layout map promises proved prefix machine header edition readme refusals selfcheck facts installed tried commanded sanitized
 
 # What make run shows.
 ELEMENTS = examples/orbits.elements
@@ -55,7 +55,7 @@ run: command
 state: command
 	@$(X86) run build/kelubashi state $(STATE)
 
-check: layout map test
+check: layout map promises test
 	@rt ci
 
 test: machine header proved program edition readme refusals selfcheck facts installed build/host/example tried commanded sanitized $(TESTS)
@@ -150,6 +150,9 @@ layout: kit
 
 map:
 	@sh tests/map.sh
+
+promises:
+	@sh tests/promises.sh
 
 machine:
 	@$(X86) ready

@@ -4,8 +4,6 @@ use Rattle.bits.specs.OneAnswer.{OneAnswer}
 use Rattle.bits.proofs.Computed.{answered}
 use Rattle.bits.proofs.words.kind_of.Kinds as kind-of-kinds
 use Rattle.bits.proofs.words.kind_of.Reads as kind-of-reads
-use Rattle.bits.proofs.words.figure_of.Kinds as figure-of-kinds
-use Rattle.bits.proofs.words.figure_of.Reads as figure-of-reads
 use Rattle.bits.proofs.words.is_finite_word.Kinds as is-finite-word-kinds
 use Rattle.bits.proofs.words.is_finite_word.Reads as is-finite-word-reads
 use Rattle.bits.proofs.words.double_of.Kinds as double-of-kinds
@@ -31,9 +29,6 @@ use Rattle.bits.proofs.root.root_of_figure.Reads as root-of-figure-read
 
 pub kind-of-one : OneAnswer 0 kind-of-kinds.ps kind-of-kinds.r kind-of-reads.Post
 kind-of-one κs a x y v w p q = (p ∙ sym q, refl)
-
-pub figure-of-one : OneAnswer 0 figure-of-kinds.ps figure-of-kinds.r figure-of-reads.Post
-figure-of-one κs a x y v w p q = (p ∙ sym q, refl)
 
 pub is-finite-word-one : OneAnswer 0 is-finite-word-kinds.ps is-finite-word-kinds.r is-finite-word-reads.Post
 is-finite-word-one κs a x y v w p q = (p ∙ sym q, refl)

@@ -1,23 +1,41 @@
 -- What is known of a run that has none of the sought words, what a word says of the double that it is the word of, and a run after a copy.
-use mathlib.Core.Path.{_≡_, refl, sym, ap, subst}
-use mathlib.Core.Bool.{Bool, true, false, not}
+use mathlib.Core.Path.{_≡_, refl, sym, ap, subst, _∙_}
+use mathlib.Core.Bool.{Bool, true, false, not, _||_}
 use mathlib.Core.List.{List, [], _∷_}
 use Prim.Native.Nat.{ℕ, zero, suc, _+_, _<_, _≤_}
 use native.Mathlib.Omega.{arith}
+use native.Mathlib.Decide.{decLt}
 use borrow.Author.Tests.{lt-ltb, le-ltb, ltb-false, not-false, eq-eqb, ne-eqb}
-use lib.Dec.{T}
+use lib.Dec.{T, ltb}
 use lib.Ieee.{Float, binary64, fits, nanBits, ofBits, toBits}
 use lib.Ieee.Bits.{nanBits-is, ofBits-toBits}
 use lib.ListN.{length, getD}
 use Rattle.bits.specs.Choice.{pick}
-use Rattle.bits.specs.Runs.{isSoughtDouble, isSought, firstOf, has, copied}
+use Rattle.bits.specs.Words.{wordsOf}
+use Rattle.bits.specs.Runs.{isSoughtDouble, isSought, firstOf, has, anySought, AllFit, copied}
 use Rattle.bits.specs.declared.runs.Sought.{Sought}
 use Rattle.bits.specs.declared.runs.Sought.the-variants.{NotFinite}
 use Rattle.bits.proofs.Doubles.{finite-no-nan}
 
--- The word of a double is sought exactly where the double is.
+ltb-next : (a b : ℕ) → ltb (1 + a) (suc b) ≡ ltb a b
+ltb-next a b = elim (decLt a b) [
+  | yes l ↦ lt-ltb (1 + a) (suc b) (omega arith) ∙ sym (lt-ltb a b l)
+  | no g ↦ le-ltb (1 + a) (suc b) (omega arith) ∙ sym (le-ltb a b (omega arith))
+]
+
+-- The word of a double is sought exactly where the double is; and a run of such words has one exactly where the doubles do.
 pub sought-word : (s : Sought) (x : Float) → T (fits binary64 x) → isSought s (toBits binary64 x) ≡ isSoughtDouble s x
 sought-word s x f = ap (isSoughtDouble s) (ofBits-toBits binary64 x f)
+
+pub sought-words : (s : Sought) (xs : List Float) → AllFit xs → has s (wordsOf xs) ≡ anySought s xs
+unfolding has firstOf anySought
+sought-words s [] f = refl
+sought-words s (x ∷ xs) f = go (isSought s (toBits binary64 x)) (sought-word s x (f .0)) (sought-words s xs (f .1))
+  where
+    go : (b : Bool) → b ≡ isSoughtDouble s x → ltb (firstOf s (wordsOf xs)) (length (wordsOf xs)) ≡ anySought s xs →
+        ltb (pick b 0 (1 + firstOf s (wordsOf xs))) (length (wordsOf (x ∷ xs))) ≡ isSoughtDouble s x || anySought s xs
+    go true e r = rw (← e) (lt-ltb 0 (length (wordsOf (x ∷ xs))) (omega arith))
+    go false e r = rw (← e) (ltb-next (firstOf s (wordsOf xs)) (length (wordsOf xs)) ∙ r)
 
 -- What `f64::from_bits` asks.
 pub finite-word : (w : ℕ) → isSought NotFinite w ≡ false → T (not (nanBits binary64 w))

@@ -1,10 +1,10 @@
 -- Runs of words. A double crosses every border as its word, so that a run of figures or of divisors is looked through as words (document 01, refusals 2, 4
 -- and 8).
-use mathlib.Core.Bool.{Bool, not}
+use mathlib.Core.Bool.{Bool, true, false, not, _||_}
 use mathlib.Core.List.{List, [], _∷_}
 use Prim.Native.Nat.{ℕ, _+_}
-use lib.Dec.{eqb, ltb}
-use lib.Ieee.{Float, binary64, eq, ofBits}
+use lib.Dec.{T, eqb, ltb}
+use lib.Ieee.{Float, binary64, eq, fits, ofBits}
 use lib.ListN.{length}
 use Rattle.bits.specs.Choice.{pick}
 use Rattle.bits.specs.Arithmetic.{n0, isFinite}
@@ -27,6 +27,16 @@ firstOf s (w ∷ ws) = pick (isSought s w) 0 (1 + firstOf s ws)
 -- "any of", "a divisor", "a figure": the run has one.
 unfoldable pub has : Sought → List ℕ → Bool
 has s words = ltb (firstOf s words) (length words)
+
+-- The same of doubles as numbers: some of these is sought. `sought-words` says that a run of their words has one exactly then.
+unfoldable pub anySought : Sought → List Float → Bool
+anySought s [] = false
+anySought s (x ∷ xs) = isSoughtDouble s x || anySought s xs
+
+-- Doubles that are binary64's, as every result of an operation is.
+abbrev pub AllFit : List Float → Type 0
+AllFit [] = Unit {0}
+AllFit (x ∷ xs) = T (fits binary64 x) × AllFit xs
 
 -- What a run holds after words were copied to it: the words, where there are as many.
 unfoldable pub copied : (words run : List ℕ) → List ℕ

@@ -6,8 +6,6 @@ use lib.Ieee.{Float, binary64, ofBits, toBits}
 use Rattle.bits.specs.Choice.{pick}
 use Rattle.bits.specs.declared.words.Kind.{Kind}
 use Rattle.bits.specs.declared.words.Kind.the-variants as kind
-use Rattle.bits.specs.declared.words.Figure.{Figure}
-use Rattle.bits.specs.declared.words.Figure.the-variants as figure
 
 -- The exponent field and the 52 digits of a word; what is left is its sign bit.
 abbrev pub fieldOf : ℕ → ℕ
@@ -21,15 +19,6 @@ kindOf w =
     pick (eqb (fieldOf w) 0) kind.ZeroOrSubnormal
     (pick (leb (fieldOf w) 2046) kind.Normal
     kind.NotFinite)
-
--- The double of a word, where it is finite.
-abbrev pub figureBy : Kind → ℕ → Figure
-figureBy kind.ZeroOrSubnormal w = figure.Finite (ofBits binary64 w)
-figureBy kind.Normal w = figure.Finite (ofBits binary64 w)
-figureBy kind.NotFinite w = figure.NotFinite
-
-abbrev pub figureOf : ℕ → Figure
-figureOf w = figureBy (kindOf w) w
 
 -- The word of plus infinity: the words below it are those of the finite doubles with a clear sign bit, in the order of their values.
 abbrev pub infinity : ℕ

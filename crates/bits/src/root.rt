@@ -124,7 +124,8 @@ pub fn root_of(word: u64) -> Root
 
 // The root of a double as a number.
 pub fn root_of_figure(x: f64) -> RootFigure
-    ensures { λ r. ⌜ (r .refusal ≡ rootRefusal x) × (r .figure ≡ rootOf x) ⌝ }
+    ensures refusal { λ r. ⌜ r .refusal ≡ rootRefusal x ⌝ }
+    ensures figure { λ r. ⌜ r .figure ≡ rootOf x ⌝ }
 {
     if x != x {
         return RootFigure {

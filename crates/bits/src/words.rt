@@ -2,7 +2,7 @@
 ghost use mathlib.Core.Path.{_≡_};
 ghost use lib.Ieee.{binary64, ofBits, toBits};
 ghost use Rattle.bits.specs.Arithmetic.{isFinite, magnitude};
-ghost use Rattle.bits.specs.Words.{kindOf, figureOf, placeOf};
+ghost use Rattle.bits.specs.Words.{kindOf, placeOf};
 
 // The weight of a word's sign bit.
 pub const SIGN: u64 = 0x8000_0000_0000_0000;
@@ -18,12 +18,6 @@ pub enum Kind {
     NotFinite,
 }
 
-// A word's double as a number, where it is finite.
-pub enum Figure {
-    Finite(f64),
-    NotFinite,
-}
-
 // What the double of a word is, by its exponent field.
 pub fn kind_of(word: u64) -> Kind
     ensures { λ r. ⌜ r ≡ kindOf word ⌝ }
@@ -33,17 +27,6 @@ pub fn kind_of(word: u64) -> Kind
         0 => Kind::ZeroOrSubnormal,
         1..=2046 => Kind::Normal,
         2047.. => Kind::NotFinite,
-    }
-}
-
-// The double of a word. No number is made of a word that is not finite.
-pub fn figure_of(word: u64) -> Figure
-    ensures { λ r. ⌜ r ≡ figureOf word ⌝ }
-{
-    match kind_of(word) {
-        Kind::ZeroOrSubnormal => Figure::Finite(f64::from_bits(word)),
-        Kind::Normal => Figure::Finite(f64::from_bits(word)),
-        Kind::NotFinite => Figure::NotFinite,
     }
 }
 

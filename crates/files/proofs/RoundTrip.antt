@@ -52,7 +52,7 @@ at-start room file h =
     let all : 0 + length file ≡ length file = omega arith in
     put-fits room file 0 (omega arith) ∙ ap (λ (n : ℕ). file ++ drop n room) all
 
--- ---- "An accepted file written again is the same bytes", in any room that is long enough.
+-- ---- Demand 2: "An accepted element file, written again, is the same bytes", in any room that is long enough.
 
 again : (file : List ℕ) → Below 256 file → fileCheck file ≡ Sound → (room : List ℕ) → length file ≤ length room →
     let c = wordAt file 8 in
@@ -82,7 +82,7 @@ written-again file places bytes e room h =
     subst (λ (x : Places). WrittenAs (held file Centres (x .centres)) (held file States (x .states)) (held file Requests (x .requests)) room file)
     (a .1) (again file bytes (a .0) room h)
 
--- ---- "What is written reads back as the same sections", words included.
+-- ---- "what we write reads back as the same sections", words included.
 
 back : (C S R : List ℕ) (c s r : ℕ) → ProperFile C S R c s r → Below (2 ^ 64) C → Below (2 ^ 64) S → Below (2 ^ 64) R →
     ReadsAs (fileOf C S R) (placesOf c s r) C S R

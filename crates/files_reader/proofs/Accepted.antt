@@ -14,7 +14,7 @@ use Rattle.files_sections.proofs.CheckLaws.{both, needed}
 use Rattle.files_sections.proofs.CountedLaws.{count-within, words-within}
 use Rattle.files_reader.specs.declared.Places.{Places}
 use Rattle.files_reader.specs.declared.Reading.the-variants.{Sections}
-use Rattle.files_reader.specs.Reader.{editionCheck, endCheck, fileCheck, sectionsOf, readingBy, readingOf}
+use Rattle.files_reader.specs.Reader.{editionCheck, endCheck, fileCheck, sectionsOf, readingBy, readingOf, longestFile}
 
 -- ---- A file that is sound.
 module _ (file : List ℕ) (sound : fileCheck file ≡ Sound) where
@@ -85,7 +85,7 @@ module _ (file : List ℕ) (places : Places) (accepted : readingOf file ≡ Sect
       (accepted-sound .1) (counts-within file (accepted-sound .0))
 
   -- "at most 56,160 bytes".
-  pub accepted-length : length file ≤ 56160
+  pub accepted-length : length file ≤ longestFile
   accepted-length =
       let sound = accepted-sound .0 in
       omega (arith, sound-length file sound, counts-within file sound)

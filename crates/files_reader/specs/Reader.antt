@@ -11,7 +11,7 @@ use Rattle.files_sections.specs.declared.sections.Section.the-variants.{Centres
 use Rattle.files_sections.specs.declared.checks.Check.{Check}
 use Rattle.files_sections.specs.declared.checks.Check.the-variants.{Sound, Fault}
 use Rattle.files_sections.specs.Checks.{need, _⟫_, countedCheck}
-use Rattle.files_sections.specs.Sections.{elementEdition, sectionCheck, after, centresPlace, statesPlace, requestsPlace, endPlace}
+use Rattle.files_sections.specs.Sections.{limitOf, elementEdition, sectionCheck, after, centresPlace, statesPlace, requestsPlace, endPlace}
 use Rattle.files_reader.specs.declared.Places.{Places}
 use Rattle.files_reader.specs.declared.Reading.{Reading}
 use Rattle.files_reader.specs.declared.Reading.the-variants.{Sections, Refused}
@@ -20,6 +20,10 @@ use Rattle.files_reader.specs.declared.Reading.the-variants.{Sections, R
 unfoldable pub editionCheck : List ℕ → Check
 unfolding wordAt
 editionCheck file = need (leb 8 (length file)) 21 0 ⟫ need (eqb (wordAt file 0) elementEdition) 22 0
+
+-- "at most 56,160 bytes": every section at its limit.
+abbrev pub longestFile : ℕ
+longestFile = endPlace (limitOf Centres) (limitOf States) (limitOf Requests)
 
 -- "25 bytes left after the last section", at the first of them.
 abbrev pub endCheck : List ℕ → ℕ → Check

@@ -11,19 +11,19 @@ use lib.ListN.{length}
 use Rattle.bits.specs.Choice.{pick}
 use Rattle.files_words.specs.Bytes.{wordAt}
 use Rattle.files_words.proofs.WordLaws.{word-missing}
-use Rattle.files_results.specs.Requests.{upTo}
+use Rattle.files_results.specs.Requests.{asFarAs}
 
 module _ (end place : ℕ) where
-  pub not-beyond : place ≤ end → place ≡ upTo end place
-  unfolding upTo
+  pub not-beyond : place ≤ end → place ≡ asFarAs end place
+  unfolding asFarAs
   not-beyond h = sym (simp (le-leb place end h))
 
-  pub beyond : end < place → end ≡ upTo end place
-  unfolding upTo
+  pub beyond : end < place → end ≡ asFarAs end place
+  unfolding asFarAs
   beyond h = sym (simp (lt-leb place end h))
 
-  pub at-most : upTo end place ≤ end
-  unfolding upTo
+  pub at-most : asFarAs end place ≤ end
+  unfolding asFarAs
   at-most = by (leb place end) refl
     where
       by : (b : Bool) → leb place end ≡ b → pick b place end ≤ end
@@ -31,8 +31,8 @@ module _ (end place : ℕ) where
       by false e = omega arith
 
 -- No word stands from eight bytes after a file's end on.
-pub same-word : (file : List ℕ) (place d : ℕ) → wordAt file (upTo (length file + 8) place + d) ≡ wordAt file (place + d)
-unfolding upTo
+pub same-word : (file : List ℕ) (place d : ℕ) → wordAt file (asFarAs (length file + 8) place + d) ≡ wordAt file (place + d)
+unfolding asFarAs
 same-word file place d = by (leb place (length file + 8)) refl
   where
     by : (b : Bool) → leb place (length file + 8) ≡ b → wordAt file (pick b place (length file + 8) + d) ≡ wordAt file (place + d)

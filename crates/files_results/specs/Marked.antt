@@ -3,7 +3,7 @@ use mathlib.Core.Path.{_≡_, refl}
 use mathlib.Core.List.{List, [], _∷_, map}
 use Prim.Native.Nat.{ℕ}
 use lib.Ieee.{binary64, add, sub, mul, div, neg, lt, eq, ne, ofBits, toBits}
-use Rattle.bits.specs.Words.{wordsOf}
+use Rattle.bits.specs.Words.{minusZero, wordsOf}
 use Rattle.bits.specs.Runs.{firstOf, has}
 use Rattle.bits.specs.Root.{rootRefusalOf, rootWordOf, rootOf}
 use Rattle.series.specs.declared.figures.Coefficients.{Coefficients}
@@ -51,10 +51,7 @@ one = 0x3ff0000000000000
 abbrev minusOne : ℕ
 minusOne = 0xbff0000000000000
 
-abbrev minusZero : ℕ
-minusZero = 0x8000000000000000
-
--- "A refusal carries the trial points used so far, all other figures +0."
+-- "A refusal carries the trial points used so far .., all other figures +0".
 abbrev refusedWith : (refusal points : ℕ) → List ℕ
 refusedWith refusal points = refusal ∷ points ∷ 0 ∷ 0 ∷ 0 ∷ 0 ∷ 0 ∷ 0 ∷ 0 ∷ 0 ∷ 0 ∷ 0 ∷ 0 ∷ 0 ∷ 0 ∷ []
 
@@ -92,7 +89,7 @@ table =
     ∷ record { asked = call (at-one 0 minusOne); must = staysWith 21 minusOne }
     -- "P12 position (1,0,0), velocity (0,2^500,0), μ = 0, τ = 2^40: 6 with 1 point."
     ∷ record { asked = call (at-one 0x5f30000000000000 0x4270000000000000); must = refusedWith 6 1 }
-    -- "P10 as one request writes, whole: 1, 1, 0, 21, the word of 1.0, 0, 0, 0, 0, 0, then three times 8000000000000000 hex (minus zero)."
+    -- "P10 as one request writes, whole: 1, 1, 0, 21, the word of 1.0 .., 0, 0, 0, 0, 0, then three times 8000000000000000 hex (minus zero)."
     ∷ record {
       asked = file (1 ∷ 1 ∷ 0 ∷ 1 ∷ 0 ∷ 0 ∷ one ∷ 0 ∷ 0 ∷ 0 ∷ 0 ∷ 0 ∷ 1 ∷ 0 ∷ one ∷ []);
       must = asBytes (1 ∷ 1 ∷ 0 ∷ 21 ∷ one ∷ 0 ∷ 0 ∷ 0 ∷ 0 ∷ 0 ∷ minusZero ∷ minusZero ∷ minusZero ∷ []);

@@ -39,5 +39,5 @@ unfoldable pub requestWords : List ℕ → Places → (k : ℕ) → List ℕ
 requestWords file places k = eightWords file (requestPlace places k) (statePlace file places k) (centrePlace file places k)
 
 -- ---- What the code's inner step answers: a place as far as the end, where nothing stands any more.
-unfoldable pub upTo : (end place : ℕ) → ℕ
-upTo end place = pick (leb place end) place end
+unfoldable pub asFarAs : (end place : ℕ) → ℕ
+asFarAs end place = pick (leb place end) place end

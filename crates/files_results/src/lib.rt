@@ -45,8 +45,8 @@ fn put_row(file: &[u8], places: Places, k: usize, room: &mut [u8])
     requires { ⌜ Accepted (now file) places × (k < places .requests .count) ⌝ }
     ensures { λ _. ⌜ now (room .exit) ≡ withRow (now (file .entry)) places k (now (room .entry)) ⌝ }
 {
-    let answer = states::call::propagate(requests::request_words(file, places, k));
-    let words = states::answer::words_of(answer);
+    let answer = states::propagate(requests::request_words(file, places, k));
+    let words = states::words_of(answer);
     put_words(room, row_place(k), &words[..ROW_WORDS]);
 }
 

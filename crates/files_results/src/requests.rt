@@ -3,7 +3,7 @@ ghost use mathlib.Core.Path.{_≡_};
 ghost use Prim.Native.Nat.{_+_, _^_, _<_, _≤_};
 ghost use lib.ListN.{length};
 ghost use Rattle.files_sections.specs.Sections.{after};
-ghost use Rattle.files_results.specs.Requests.{tauOf, field, eightWords, requestWords, upTo};
+ghost use Rattle.files_results.specs.Requests.{tauOf, field, eightWords, requestWords, asFarAs};
 use bits::words::double_of;
 use bits::words::word_of;
 use files_reader::Places;
@@ -26,7 +26,7 @@ fn tau_of(time: u64, epoch: u64) -> u64
 // The place of record i of a section whose count word stands at `place`, in a file of `size` bytes: exact as far as the file's end, so that no sum can wrap.
 fn record_at(size: usize, section: Section, place: usize, i: usize) -> usize
     requires { ⌜ size < 2 ^ 63 ⌝ }
-    ensures { λ r. ⌜ r ≡ upTo (size + 8) (after section place i) ⌝ }
+    ensures { λ r. ⌜ r ≡ asFarAs (size + 8) (after section place i) ⌝ }
 {
     let width = section.width() as usize;
     if size < place {

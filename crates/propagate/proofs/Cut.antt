@@ -17,7 +17,7 @@ use Rattle.files_sections.specs.declared.checks.Check.{Check}
 use Rattle.files_sections.specs.declared.checks.Check.the-variants.{Sound, Fault}
 use Rattle.files_sections.specs.Checks.{need, told, _⟫_, Ruling, walk, countCheck, countedCheck, rulingOf}
 use Rattle.files_sections.specs.Sections.{elementEdition, sections, widthOf, limitOf, ruleOf, centresPlace, after}
-use Rattle.files_reader.specs.Reader.{editionCheck, endCheck, sectionsCheck, fileCheck, sectionsOf, readingBy, readingOf}
+use Rattle.files_reader.specs.Reader.{editionCheck, endCheck, sectionsCheck, fileCheck, sectionsOf, readingBy, readingOf, longestFile}
 use Rattle.files_reader.proofs.Accepted.{accepted-length}
 use Rattle.files_results.specs.Results.{resultBy, resultFile}
 
@@ -83,12 +83,12 @@ module _ (start rest : List ℕ) where
         ap (λ (c : Check). (c ⟫ walk ruling (place + 8) [] (wordAt whole place * width) (wordsFrom whole (place + 8))) ⟫ x) (same-count ∙ too-many e)
         ∙ sym (ap (λ (c : Check). (c ⟫ walk ruling (place + 8) [] (wordAt start place * width) (wordsFrom start (place + 8))) ⟫ y) (too-many e))
 
-  module _ (long : 56160 < length start) where
-    same-end : (end : ℕ) → end ≤ 56160 → endCheck whole end ≡ endCheck start end
+  module _ (long : longestFile < length start) where
+    same-end : (end : ℕ) → end ≤ longestFile → endCheck whole end ≡ endCheck start end
     same-end end h = ap (λ (b : Bool). need b 25 end) (lt-leb (length whole) end (omega (arith, longer)) ∙ sym (lt-leb (length start) end (omega arith)))
 
     -- The sections, as far as they can reach.
-    same-sections : (place below : ℕ) (those : List Section) → place + reach those ≤ 56160 → sectionsCheck whole place below those ≡ sectionsCheck start place below those
+    same-sections : (place below : ℕ) (those : List Section) → place + reach those ≤ longestFile → sectionsCheck whole place below those ≡ sectionsCheck start place below those
     unfolding sectionsCheck reach
     same-sections place below [] h = same-end place (omega arith)
     same-sections place below (section ∷ those) h =

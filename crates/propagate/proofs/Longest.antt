@@ -21,7 +21,7 @@ longest-by : (file : List ℕ) (reading : Reading) → readingOf file ≡ readin
 longest-by file (Sections places) e = omega (arith, result-length file places, accepted-counts file places e)
 longest-by file (Refused number place) e = omega (arith, length-as-bytes (refusedFile number))
 
-pub longest : (file : List ℕ) → length (resultFile file) ≤ 132016
+pub longest : (file : List ℕ) → length (resultFile file) ≤ longestResult
 unfolding resultFile
 longest file = longest-by file (readingOf file) refl
 

@@ -11,6 +11,7 @@ ghost use mathlib.Core.List.{List, _++_};
 ghost use Prim.Native.Nat.{ℕ, _<_};
 ghost use lib.ListN.{length, take};
 ghost use Rattle.io.specs.Counts.{Counts};
+ghost use Rattle.files_reader.specs.Reader.{longestFile};
 ghost use Rattle.files_results.specs.Results.{resultFile};
 use files_results::LONGEST_RESULT;
 use libc::STDERR_FILENO;
@@ -67,7 +68,7 @@ fn propagate(fd: i32, name: &[u8]) {
 
 // Writes the result file of an element file to standard output, of which so many bytes were read.
 fn answer(file: &[u8], n: usize)
-    requires { ⌜ Counts n (now file) × (56160 < length (now file)) ⌝ }
+    requires { ⌜ Counts n (now file) × (longestFile < length (now file)) ⌝ }
 {
     let mut room = [0u8; LONGEST_RESULT];
     let size = results_of(file, n, &mut room);
@@ -80,7 +81,7 @@ fn answer(file: &[u8], n: usize)
 // buffer is full, it is the result file of every longer file that begins so: the reader walks forward, no word that it asks for
 // stands behind byte 56,160, and where it finds no fault before, a byte is left after the last section: 25.
 fn results_of(file: &[u8], n: usize, room: &mut [u8; LONGEST_RESULT]) -> usize
-    requires { ⌜ Counts n (now file) × (56160 < length (now file)) ⌝ }
+    requires { ⌜ Counts n (now file) × (longestFile < length (now file)) ⌝ }
     ensures size { λ r. ⌜ Counts r (now (room .exit)) ⌝ }
     ensures read { λ r. ⌜ take r (now (room .exit)) ≡ resultFile (take n (now (file .entry))) ⌝ }
     ensures longer { λ r. ⌜ (n ≡ length (now (file .entry)) → (rest : List ℕ) → take r (now (room .exit)) ≡ resultFile (now (file .entry) ++ rest)) ⌝ }

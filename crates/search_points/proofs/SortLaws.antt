@@ -1,10 +1,9 @@
 -- The sorts mean what document 01 says of R.
-use mathlib.Core.Path.{_≡_, refl, sym, subst, _∙_}
-use mathlib.Core.Bool.{Bool, true, false, true≢false}
-use mathlib.Core.Logic.{_⊎_, inl, inr}
+use mathlib.Core.Path.{_≡_, refl, sym, subst}
+use mathlib.Core.Bool.{Bool, true, false}
+use mathlib.Core.Logic.{_⊎_, inl, inr, ⊎-elim}
 use Prim.Native.Nat.{ℕ}
-use native.Mathlib.Omega.{arith}
-use borrow.Author.Tests.{eqb-true}
+use borrow.Author.Tests.{eqb-true, leb-true}
 use lib.Dec.{eqb, leb}
 use lib.Ieee.{Float, neg, lt, eq, ne}
 use Rattle.bits.specs.Choice.{pick}
@@ -20,54 +19,57 @@ use Rattle.search_points.specs.Residual.{timeErrorOf}
 use Rattle.search_points.specs.Trial.{anomalyAt, sortOf, unevaluated, trialOf, evaluatedAt, trialAt}
 use Rattle.search_points.specs.Meaning.{errorAt, isOpposite, errorOfPlace, SortsMean}
 
--- What a sort says of an error, whose place is 0 or not.
-abbrev Says : (tau : Seconds) (error : Float) (at-zero : Bool) → Sort → Type 0
-Says tau error z Exact = eq error n0 ≡ true
-Says tau error z (Short r) = (z ≡ true) ⊎ ((r ≡ error) × (isOpposite tau r ≡ true))
-Says tau error z (Past r) = (r ≡ error) × (ne r r ≡ false) × (eq r n0 ≡ false) × (isOpposite tau r ≡ false)
-Says tau error z Unreadable = Unit {0}
+-- What a sort says of an error whose place is 0 or not, beyond the last number's or not, and whose L is finite or not.
+abbrev Says : (tau : Seconds) (error : Float) (at-zero : Bool) (beyond : Bool) (finite : Bool) → Sort → Type 0
+Says tau error z b f Exact = eq error n0 ≡ true
+Says tau error z b f (Short r) = (z ≡ true) ⊎ ((r ≡ error) × (isOpposite tau r ≡ true))
+Says tau error z b f (Past r) = (r ≡ error) × (ne r r ≡ false) × (eq r n0 ≡ false) × (isOpposite tau r ≡ false)
+Says tau error z b f Unreadable = (b ≡ true) ⊎ ((f ≡ false) ⊎ (ne error error ≡ true))
 
-by-tests : (tau : Seconds) (error : Float) (z nan zero opposite : Bool) → ne error error ≡ nan → eq error n0 ≡ zero → isOpposite tau error ≡ opposite →
-    Says tau error z (pick nan Unreadable (pick zero Exact (pick opposite (Short error) (Past error))))
-by-tests tau error z true zero opposite e f g = tt
-by-tests tau error z false true opposite e f g = f
-by-tests tau error z false false true e f g = inr (refl, g)
-by-tests tau error z false false false e f g = (refl, e, f, g)
+by-tests : (tau : Seconds) (error : Float) (z b f nan zero opposite : Bool) → ne error error ≡ nan → eq error n0 ≡ zero → isOpposite tau error ≡ opposite →
+    Says tau error z b f (pick nan Unreadable (pick zero Exact (pick opposite (Short error) (Past error))))
+by-tests tau error z b f true zero opposite e g h = inr (inr e)
+by-tests tau error z b f false true opposite e g h = g
+by-tests tau error z b f false false true e g h = inr (refl, h)
+by-tests tau error z b f false false false e g h = (refl, e, g, h)
 
-sort-says : (tau : Seconds) (error : Float) (z : Bool) → Says tau error z (sortOf tau error)
+sort-says : (tau : Seconds) (error : Float) (z b f : Bool) → Says tau error z b f (sortOf tau error)
 unfolding sortOf
-sort-says tau error z = by-tests tau error z (ne error error) (eq error n0) (isOpposite tau error) refl refl refl
+sort-says tau error z b f = by-tests tau error z b f (ne error error) (eq error n0) (isOpposite tau error) refl refl refl
 
 module _ (i : Initial) (tau : Seconds) where
   same-error : (psi : Anomaly) → timeErrorOf i tau (sumsOf psi (coefficientsOf (i .alpha) psi)) ≡ errorAt i tau psi
   unfolding timeErrorOf sumsOf
   same-error psi = refl
 
-  evaluated-says : (psi : Anomaly) (z : Bool) → Says tau (errorAt i tau psi) z (evaluatedAt i tau psi .sort)
+  evaluated-says : (psi : Anomaly) (z b : Bool) → Says tau (errorAt i tau psi) z b (isFinite (firstL (i .alpha) psi)) (evaluatedAt i tau psi .sort)
   unfolding evaluatedAt
-  evaluated-says psi z = go (isFinite (firstL (i .alpha) psi))
+  evaluated-says psi z b = go (isFinite (firstL (i .alpha) psi))
     where
-      go : (b : Bool) → Says tau (errorAt i tau psi) z (pick b (trialOf i tau (coefficientsOf (i .alpha) psi .c0) (sumsOf psi (coefficientsOf (i .alpha) psi))) (unevaluated Unreadable) .sort)
-      go true = subst (λ (r : Float). Says tau (errorAt i tau psi) z (sortOf tau r)) (sym (same-error psi)) (sort-says tau (errorAt i tau psi) z)
-      go false = tt
+      go : (f : Bool) →
+          Says tau (errorAt i tau psi) z b f (pick f (trialOf i tau (coefficientsOf (i .alpha) psi .c0) (sumsOf psi (coefficientsOf (i .alpha) psi))) (unevaluated Unreadable) .sort)
+      go true = subst (λ (r : Float). Says tau (errorAt i tau psi) z b true (sortOf tau r)) (sym (same-error psi)) (sort-says tau (errorAt i tau psi) z b true)
+      go false = inr (inl refl)
 
-  trial-says : (p : ℕ) → Says tau (errorOfPlace i tau p) (eqb p 0) (trialAt i tau p .sort)
+  -- All that a place's sort says.
+  abbrev SaysAt : (p : ℕ) → Sort → Type 0
+  SaysAt p sort = Says tau (errorOfPlace i tau p) (eqb p 0) (leb infinity p) (isFinite (firstL (i .alpha) (anomalyAt tau p))) sort
+
+  trial-says : (p : ℕ) → SaysAt p (trialAt i tau p .sort)
   unfolding trialAt
   trial-says p = go (eqb p 0) (leb infinity p)
     where
-      go : (z top : Bool) → Says tau (errorOfPlace i tau p) z (pick z (unevaluated (Short (neg (tau .0)))) (pick top (unevaluated Unreadable) (evaluatedAt i tau (anomalyAt tau p))) .sort)
-      go true top = inl refl
-      go false true = tt
-      go false false = evaluated-says (anomalyAt tau p) false
+      go : (z b : Bool) → Says tau (errorOfPlace i tau p) z b (isFinite (firstL (i .alpha) (anomalyAt tau p)))
+          (pick z (unevaluated (Short (neg (tau .0)))) (pick b (unevaluated Unreadable) (evaluatedAt i tau (anomalyAt tau p))) .sort)
+      go true b = inl refl
+      go false true = inl refl
+      go false false = evaluated-says (anomalyAt tau p) false false
 
   pub sorts-mean : (p : ℕ) → SortsMean i tau p
   sorts-mean p =
       record {
-        exact = λ e. subst (Says tau (errorOfPlace i tau p) (eqb p 0)) e (trial-says p);
-        short = λ r e. short-or-zero (subst (Says tau (errorOfPlace i tau p) (eqb p 0)) e (trial-says p));
-        past = λ r e. subst (Says tau (errorOfPlace i tau p) (eqb p 0)) e (trial-says p);
+        unreadable = λ e. ⊎-elim (λ b. inl (leb-true infinity p b)) inr (subst (SaysAt p) e (trial-says p));
+        exact = λ e. subst (SaysAt p) e (trial-says p);
+        short = λ r e. ⊎-elim (λ z. inl (eqb-true p 0 z)) inr (subst (SaysAt p) e (trial-says p));
+        past = λ r e. subst (SaysAt p) e (trial-says p);
       }
-    where
-      short-or-zero : {r : Float} → (eqb p 0 ≡ true) ⊎ ((r ≡ errorOfPlace i tau p) × (isOpposite tau r ≡ true)) → (p ≡ 0) ⊎ ((r ≡ errorOfPlace i tau p) × (isOpposite tau r ≡ true))
-      short-or-zero (inl z) = inl (eqb-true p 0 z)
-      short-or-zero (inr x) = inr x

@@ -1,23 +1,21 @@
 // One trial point: a place, its anomaly, and its sort.
 ghost use mathlib.Core.Path.{_≡_};
 ghost use Prim.Native.Nat.{_^_};
-ghost use lib.Ieee.{lt, eq};
+ghost use lib.Ieee.{neg, lt, eq};
 ghost use Rattle.bits.specs.Choice.{pick};
 ghost use Rattle.bits.specs.Arithmetic.{n0};
-ghost use Rattle.search_points.specs.declared.figures.Sort.the-variants.{Exact, Unreadable};
+ghost use Rattle.search_points.specs.declared.figures.Sort.the-variants.{Short, Exact, Unreadable};
 ghost use Rattle.search_points.specs.Trial.{anomalyAt, sortOf, unevaluated, trialOf, evaluatedAt, trialAt};
 use super::figures::Initial;
 use super::figures::Sort;
 use super::figures::Terms;
 use super::figures::Trial;
 use super::residual;
+use bits::words::INFINITY;
 use bits::words::SIGN;
 use series::Anomaly;
 use series::Seconds;
 use series::Sums;
-
-// The first place that is no finite double's: 2047 * 2^52.
-pub const NOT_FINITE: u64 = 0x7ff0_0000_0000_0000;
 
 // What the sign of tau adds to a word.
 fn sign_of(tau: Seconds) -> u64
@@ -30,7 +28,7 @@ fn sign_of(tau: Seconds) -> u64
 pub fn anomaly_at(tau: Seconds, place: u64) -> Anomaly
     ensures { λ r. ⌜ r ≡ anomalyAt tau place ⌝ }
 {
-    if NOT_FINITE <= place {
+    if INFINITY <= place {
         return Anomaly(0.0 / 0.0);
     }
     Anomaly(f64::from_bits(place + sign_of(tau)))
@@ -107,12 +105,19 @@ fn evaluated(initial: Initial, tau: Seconds, psi: Anomaly) -> Trial
     unevaluated_as(Sort::Unreadable)
 }
 
+// The point at place 0: short, with −τ for its error.
+fn at_zero(tau: Seconds) -> Trial
+    ensures { λ r. ⌜ r ≡ unevaluated (Short (neg (tau .0))) ⌝ }
+{
+    unevaluated_as(Sort::Short(-tau.0))
+}
+
 // The trial point at a place.
 pub fn try_at(initial: Initial, tau: Seconds, place: u64) -> Trial
     ensures { λ r. ⌜ r ≡ trialAt initial tau place ⌝ }
 {
     if place == 0 {
-        return unevaluated_as(Sort::Short(-tau.0));
+        return at_zero(tau);
     }
     evaluated(initial, tau, anomaly_at(tau, place))
 }
@@ -133,7 +138,7 @@ pub fn try_inner(initial: Initial, tau: Seconds, place: u64) -> Trial
     ensures { λ r. ⌜ r ≡ trialAt initial tau place ⌝ }
 {
     if place == 0 {
-        return unevaluated_as(Sort::Short(-tau.0));
+        return at_zero(tau);
     }
     evaluated_inner(initial, tau, anomaly_at(tau, place))
 }

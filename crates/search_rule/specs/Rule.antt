@@ -70,7 +70,7 @@ endAt place error = record { place = place; error = error }
 abbrev pub pairOf : (short past : End) (last : Bool) → Trial → Pair
 pairOf short past last t = record { short = short; past = past; «last_is_past» = last; terms = t .terms }
 
--- ---- "Outward: places of |H| plus k·2^52, k = 0 to 40, tried in order until one isn't short. Exact ends the search. Past gives a pair: the previous
+-- ---- "Outward: places of |H| plus k·2^52, k = 0 to 40, tried in order until one isn't short. .. Exact ends the search. Past gives a pair: the previous
 -- point, or place 0 when k = 0, and this one."
 
 -- What the point t at a place gives, after a short end: on to the next point from a short one, or a stop.

@@ -52,7 +52,7 @@ pub fn answered_with(points: u64, results: Results) -> Answer
 }
 
 // What a search of the interval reaches from a start: refusals 5 and 6, or the arc of the found anomaly.
-fn reached_by(start: Start, tau: Seconds, found: search::Finding) -> Reached
+fn reached_found(start: Start, tau: Seconds, found: search::Finding) -> Reached
     ensures { λ r. ⌜ r ≡ reachedFound start tau found ⌝ }
 {
     match found {
@@ -73,7 +73,7 @@ fn reach_from(start: Start, tau: Seconds) -> Reached
     if !bits::words::is_finite(h.0) {
         return Reached::Refused(4, 0);
     }
-    reached_by(start, tau, search::search(initial, tau, h))
+    reached_found(start, tau, search::search(initial, tau, h))
 }
 
 // From an orbit over an interval: refusals 3 and 4 by the orbit, then the interval.

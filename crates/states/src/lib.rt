@@ -1,11 +1,10 @@
 // Layer 4: the propagator's two calls, from eight words to an answer, without partials and with them (document 01, "Refusals in order of checking").
-pub mod answer;
-pub mod call;
+mod answer;
+mod call;
 pub mod figures;
-pub mod partials;
+mod partials;
 
 pub use answer::words_of;
 pub use call::propagate;
 pub use figures::Answer;
-pub use figures::Reached;
 pub use partials::propagate_with_partials;

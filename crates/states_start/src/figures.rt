@@ -1,5 +1,5 @@
 // What comes in, and what is known of it before the search. Lengths are in km, times in s.
-use search_points::figures::Initial;
+use search_points::Initial;
 use series::Seconds;
 
 // A position (km), a velocity (km/s) or an acceleration (km/s^2).

@@ -10,7 +10,7 @@ use super::figures::Vector;
 use bits::Sought;
 use bits::words::magnitude_of;
 use bits::words::word_of;
-use search_points::figures::Initial;
+use search_points::Initial;
 use series::Anomaly;
 use series::Seconds;
 

@@ -19,7 +19,7 @@ use Rattle.streams.specs.declared.calls.Then.{Then}
 use Rattle.streams.specs.declared.calls.Then.the-variants as next
 use Rattle.streams.specs.declared.calls.Taken.{Taken}
 use Rattle.streams.specs.declared.calls.Taken.the-variants.{Bytes}
-use Rattle.streams.specs.Calls.{callOf, Part, afterOf, Within}
+use Rattle.streams.specs.Calls.{callOf, Part, afterOf, InRoom}
 
 part-of : (got : ℤ) (signal : Bool) (most : ℕ) → Moved most got → Part (callOf got signal) most
 part-of (pos zero) signal most h = tt
@@ -65,5 +65,5 @@ pub less : {then : Then} {most left′ patience′ : ℕ} (call : Call) (left pa
 less call left patience p h e n = step call left patience _ _ (handed call p h) (sym e ∙ n)
 
 -- The bytes that a caller then takes from the room.
-pub taken : {answer : Taken} {n : ℕ} (room : List ℕ) → answer ≡ Bytes n → Within answer room → Counts n room
-taken room e w = subst (λ (t : Taken). Within t room) e w
+pub taken : {answer : Taken} {n : ℕ} (room : List ℕ) → answer ≡ Bytes n → InRoom answer room → Counts n room
+taken room e w = subst (λ (t : Taken). InRoom t room) e w

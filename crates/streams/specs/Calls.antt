@@ -45,9 +45,9 @@ afterOf call.Nothing left patience = next.Over
 afterOf call.Failed left patience = next.GiveUp
 
 -- The bytes that were taken stand in the room.
-abbrev pub Within : Taken → (room : List ℕ) → Type 0
-Within (taken.Bytes n) room = Counts n room
-Within taken.Failed room = Unit {0}
+abbrev pub InRoom : Taken → (room : List ℕ) → Type 0
+InRoom (taken.Bytes n) room = Counts n room
+InRoom taken.Failed room = Unit {0}
 
 -- Bytes that were taken are all of them.
 abbrev pub All : Taken → (bytes : List ℕ) → Type 0

@@ -1,6 +1,6 @@
 // A whole input into a room.
 ghost use lib.ListN.{length};
-ghost use Rattle.streams.specs.Calls.{Part, Within};
+ghost use Rattle.streams.specs.Calls.{Part, InRoom};
 use super::calls::Call;
 use super::calls::PATIENCE;
 use super::calls::Taken;
@@ -19,7 +19,7 @@ fn read_some(fd: i32, room: &mut [u8]) -> Call
 
 // Reads until the input ends or the room is full. The bytes stand at the start of the room.
 pub fn read_whole(fd: i32, room: &mut [u8]) -> Taken
-    ensures { λ r. ⌜ Within r (now (room .exit)) ⌝ }
+    ensures { λ r. ⌜ InRoom r (now (room .exit)) ⌝ }
 {
     let size = room.len();
     let mut left = size;

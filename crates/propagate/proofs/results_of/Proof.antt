@@ -8,6 +8,7 @@ use lib.ListN.{length, take}
 use lib.Seq.{take-all}
 use Rattle.io.specs.Counts.{Counts}
 use Rattle.files_words.specs.Bytes.{put}
+use Rattle.files_reader.specs.Reader.{longestFile}
 use Rattle.files_results.specs.Results.{longestResult, resultFile, outcomeIn}
 use Rattle.files_results.specs.declared.Outcome.{Outcome}
 use Rattle.propagate.proofs.Longest.{longest, put-first}
@@ -27,7 +28,7 @@ told file room now outcome l e p =
     (put-first room (resultFile file) (omega (arith, longest file))))
 
 -- A full buffer, and whatever follows in the file.
-longer : (file : List ℕ) (n : ℕ) → 56160 < length file → n ≡ length file → (rest : List ℕ) → resultFile (take n file) ≡ resultFile (file ++ rest)
+longer : (file : List ℕ) (n : ℕ) → longestFile < length file → n ≡ length file → (rest : List ℕ) → resultFile (take n file) ≡ resultFile (file ++ rest)
 longer file n long full rest = ap resultFile (take-all n file (omega arith)) ∙ sym (cut file rest long)
 
 slice-aggregate-write-results : tie.Need-slice-aggregate-write-results

@@ -5,7 +5,7 @@ use mathlib.Core.Path.{_≡_, ap, _∙_}
 use borrow.Author.Needs.{needs}
 use Rattle.files_sections.specs.Sections.{after}
 use Rattle.files_sections.proofs.RecordLaws.{width-bounds}
-use Rattle.files_results.specs.Requests.{upTo}
+use Rattle.files_results.specs.Requests.{asFarAs}
 use Rattle.files_results.proofs.Beyond.{not-beyond, beyond, record-fits, record-beyond}
 use Rattle.files_results.proofs.requests.record_at.Statement.{statement}
 use Rattle.files_results.proofs.requests.record_at.Tie as tie
@@ -42,10 +42,10 @@ add-result-2 c = search needs
 -- the place by the width that was asked for is the place by the section
 by-section : (c : tie.After-width) →
     let a = c .before .args in
-    upTo (a .size + 8) (a .place + 8 + 8 * (a .i * c .width .result)) ≡ upTo (a .size + 8) (after (a .section) (a .place) (a .i))
+    asFarAs (a .size + 8) (a .place + 8 + 8 * (a .i * c .width .result)) ≡ asFarAs (a .size + 8) (after (a .section) (a .place) (a .i))
 by-section c =
     let a = c .before .args in
-    ap (λ (w : ℕ). upTo (a .size + 8) (a .place + 8 + 8 * (a .i * w))) (c .width .ensures)
+    ap (λ (w : ℕ). asFarAs (a .size + 8) (a .place + 8 + 8 * (a .i * w))) (c .width .ensures)
 
 returns-2 : tie.Need-returns-2
 returns-2 c =

@@ -7,14 +7,14 @@ use borrow.Author.Needs.{needs}
 use lib.ListN.{length}
 use Rattle.files_sections.specs.declared.sections.Section.the-variants.{Centres, States}
 use Rattle.files_sections.specs.Sections.{after, stateCentre, stateEpoch, statePosition, stateVelocity, requestState, requestTime}
-use Rattle.files_results.specs.Requests.{tauOf, field, eightWords, requestWords, upTo}
+use Rattle.files_results.specs.Requests.{tauOf, field, eightWords, requestWords, asFarAs}
 use Rattle.files_results.proofs.Beyond.{at-most, same-word}
 use Rattle.files_results.proofs.requests.request_words.Statement.{statement}
 use Rattle.files_results.proofs.requests.request_words.Tie as tie
 
 module _ (file : List ℕ) where
   abbrev near : ℕ → ℕ
-  near place = upTo (length file + 8) place
+  near place = asFarAs (length file + 8) place
 
   near-end : {r : ℕ} (place : ℕ) → r ≡ near place → r ≤ length file + 8
   near-end {r} place e = omega (arith, e, at-most (length file + 8) place)

@@ -8,12 +8,12 @@ use Rattle.search_points.proofs.Points.{above-zero}
 use Rattle.search_points.proofs.trial.try_inner.Statement.{statement}
 use Rattle.search_points.proofs.trial.try_inner.Tie as tie
 
-unevaluated-as-requires : tie.Need-unevaluated-as-requires
-unevaluated-as-requires c κs = search needs
+at-zero-requires : tie.Need-at-zero-requires
+at-zero-requires c κs = search needs
 
 returns : tie.Need-returns
 unfolding trialAt
-returns c = simp (eq-eqb _ _ (c .before .before .if1 .taken)) (c .unevaluated-as .ensures)
+returns c = simp (eq-eqb _ _ (c .before .if1 .taken)) (c .at-zero .ensures)
 
 anomaly-at-requires : tie.Need-anomaly-at-requires
 anomaly-at-requires c κs = search needs
@@ -29,4 +29,4 @@ returns-2 c =
 pub try-inner-spec : {M : Type 1} → statement M
 try-inner-spec =
     tie.close
-    (tie.spec unevaluated-as-requires returns anomaly-at-requires evaluated-inner-requires returns-2)
+    (tie.spec at-zero-requires returns anomaly-at-requires evaluated-inner-requires returns-2)

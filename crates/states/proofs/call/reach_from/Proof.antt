@@ -17,14 +17,14 @@ returns c = simp (← (c .before .before .first-step .ensures), ← (c .before .
 search-requires : tie.Need-search-requires
 search-requires c κs = search needs
 
-reached-by-requires : tie.Need-reached-by-requires
-reached-by-requires c κs = search needs
+reached-found-requires : tie.Need-reached-found-requires
+reached-found-requires c κs = search needs
 
 returns-2 : tie.Need-returns-2
 unfolding reachedFromBy
 returns-2 c =
     let h = c .before .before .before in
-    simp (← (h .before .first-step .ensures), ← (h .is-finite .ensures), c .before .before .if1 .left, ← (c .before .search .ensures)) (c .reached-by .ensures)
+    simp (← (h .before .first-step .ensures), ← (h .is-finite .ensures), c .before .before .if1 .left, ← (c .before .search .ensures)) (c .reached-found .ensures)
 
 pub reach-from-spec : {M : Type 1} → statement M
 reach-from-spec =
@@ -34,5 +34,5 @@ reach-from-spec =
     is-finite-requires
     returns
     search-requires
-    reached-by-requires
+    reached-found-requires
     returns-2)

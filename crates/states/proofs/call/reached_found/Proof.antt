@@ -1,8 +1,8 @@
 -- Each arm is the definition at the end of the search that the match showed.
 use borrow.Author.Needs.{needs}
 use Rattle.states.specs.Call.{reachedFound}
-use Rattle.states.proofs.call.reached_by.Statement.{statement}
-use Rattle.states.proofs.call.reached_by.Tie as tie
+use Rattle.states.proofs.call.reached_found.Statement.{statement}
+use Rattle.states.proofs.call.reached_found.Tie as tie
 
 enum-known-found : tie.Need-enum-known-found
 enum-known-found c = search needs
@@ -28,8 +28,8 @@ returns-3 : tie.Need-returns-3
 unfolding reachedFound
 returns-3 c = simp (c .before .found3 .given .1)
 
-pub reached-by-spec : {M : Type 1} → statement M
-reached-by-spec =
+pub reached-found-spec : {M : Type 1} → statement M
+reached-found-spec =
     tie.close
     (tie.spec
     enum-known-found
