@@ -8,13 +8,19 @@ ghost use Rattle.bits.specs.Choice.{pick};
 ghost use Rattle.search_points.specs.Trial.{trialAt};
 ghost use Rattle.search_rule.specs.Rule.{attempt, isWide, halfway, counted};
 ghost use Rattle.search_proposals.specs.Proposals.{proposed};
+use bits::words::is_finite;
 use search_points::Initial;
-use search_points::try_inner;
+use search_points::Sort;
+use search_points::Trial;
+use search_points::anomaly_at;
+use search_points::point_of;
+use search_points::unevaluated_as;
 use search_proposals::proposal;
 use search_rule::Next;
 use search_rule::Pair;
 use search_rule::moved_by;
 use series::Seconds;
+use series::first_sums;
 
 // The place to propose, or 0: after a turn that tried a proposed place, the halving place is next.
 pub fn offer(initial: Initial, tau: Seconds, pair: Pair, before: u64) -> u64
@@ -35,6 +41,19 @@ fn chosen_place(pair: Pair, offered: u64) -> u64
         return pair.short.place + (pair.past.place - pair.short.place) / 2;
     }
     offered
+}
+
+// The point at a place above 0, for the inward turns, which try most of the points: `first_sums` has no other caller, so the compiler writes it into their loop.
+fn try_inner(initial: Initial, tau: Seconds, place: u64) -> Trial
+    requires { ⌜ 0 < place ⌝ }
+    ensures { λ r. ⌜ r ≡ trialAt initial tau place ⌝ }
+{
+    let psi = anomaly_at(tau, place);
+    if is_finite(initial.alpha * (psi.0 * psi.0)) {
+        let first = first_sums(initial.alpha, psi);
+        return point_of(initial, tau, first.c0, first.sums);
+    }
+    unevaluated_as(Sort::Unreadable)
 }
 
 // One more point is tried, and the pair moved by it.

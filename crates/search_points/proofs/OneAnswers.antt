@@ -9,8 +9,10 @@ use Rattle.search_points.proofs.trial.anomaly_at.Kinds as anomaly-at-ki
 use Rattle.search_points.proofs.trial.anomaly_at.Reads as anomaly-at-reads
 use Rattle.search_points.proofs.trial.try_at.Kinds as try-at-kinds
 use Rattle.search_points.proofs.trial.try_at.Reads as try-at-reads
-use Rattle.search_points.proofs.trial.try_inner.Kinds as try-inner-kinds
-use Rattle.search_points.proofs.trial.try_inner.Reads as try-inner-reads
+use Rattle.search_points.proofs.trial.point_of.Kinds as point-of-kinds
+use Rattle.search_points.proofs.trial.point_of.Reads as point-of-reads
+use Rattle.search_points.proofs.trial.unevaluated_as.Kinds as unevaluated-as-kinds
+use Rattle.search_points.proofs.trial.unevaluated_as.Reads as unevaluated-as-reads
 
 pub time-error-one : OneAnswer 0 time-error-kinds.ps time-error-kinds.r time-error-reads.Post
 time-error-one κs a x y v w p q = (p ∙ sym q, refl)
@@ -24,5 +26,8 @@ anomaly-at-one κs a x y v w p q = (p ∙ sym q, refl)
 pub try-at-one : OneAnswer 0 try-at-kinds.ps try-at-kinds.r try-at-reads.Post
 try-at-one κs a x y v w p q = (p ∙ sym q, refl)
 
-pub try-inner-one : OneAnswer 0 try-inner-kinds.ps try-inner-kinds.r try-inner-reads.Post
-try-inner-one κs a x y v w p q = (p ∙ sym q, refl)
+pub point-of-one : OneAnswer 0 point-of-kinds.ps point-of-kinds.r point-of-reads.Post
+point-of-one κs a x y v w p q = (p ∙ sym q, refl)
+
+pub unevaluated-as-one : OneAnswer 0 unevaluated-as-kinds.ps unevaluated-as-kinds.r unevaluated-as-reads.Post
+unevaluated-as-one κs a x y v w p q = (p ∙ sym q, refl)

@@ -10,5 +10,6 @@ pub use figures::Trial;
 pub use residual::radius;
 pub use residual::time_error;
 pub use trial::anomaly_at;
+pub use trial::point_of;
 pub use trial::try_at;
-pub use trial::try_inner;
+pub use trial::unevaluated_as;

@@ -67,7 +67,7 @@ fn sort_without_sign(error: f64) -> Sort
 }
 
 // A point that is sorted without an evaluation. Nothing asks for the radius there.
-fn unevaluated_as(sort: Sort) -> Trial
+pub fn unevaluated_as(sort: Sort) -> Trial
     ensures { λ r. ⌜ r ≡ unevaluated sort ⌝ }
 {
     Trial {
@@ -81,7 +81,7 @@ fn unevaluated_as(sort: Sort) -> Trial
 }
 
 // The point whose c0 and sums are given.
-fn point_of(initial: Initial, tau: Seconds, c0: f64, s: Sums) -> Trial
+pub fn point_of(initial: Initial, tau: Seconds, c0: f64, s: Sums) -> Trial
     ensures { λ r. ⌜ r ≡ trialOf initial tau c0 s ⌝ }
 {
     Trial {
@@ -120,25 +120,4 @@ pub fn try_at(initial: Initial, tau: Seconds, place: u64) -> Trial
         return at_zero(tau);
     }
     evaluated(initial, tau, anomaly_at(tau, place))
-}
-
-// The point of an anomaly as `evaluated` has it, by the first sums alone.
-fn evaluated_inner(initial: Initial, tau: Seconds, psi: Anomaly) -> Trial
-    ensures { λ r. ⌜ r ≡ evaluatedAt initial tau psi ⌝ }
-{
-    if bits::words::is_finite(initial.alpha * (psi.0 * psi.0)) {
-        let first = series::first_sums(initial.alpha, psi);
-        return point_of(initial, tau, first.c0, first.sums);
-    }
-    unevaluated_as(Sort::Unreadable)
-}
-
-// The same for the inward turns, which try most of the points: `first_sums` has no other caller, so the compiler writes it into their loop.
-pub fn try_inner(initial: Initial, tau: Seconds, place: u64) -> Trial
-    ensures { λ r. ⌜ r ≡ trialAt initial tau place ⌝ }
-{
-    if place == 0 {
-        return at_zero(tau);
-    }
-    evaluated_inner(initial, tau, anomaly_at(tau, place))
 }

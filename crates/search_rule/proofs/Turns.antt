@@ -188,6 +188,14 @@ module _ (ev : Trials) where
           by-test false e true z = halving-turn
           by-test false e false z = absurd (eqb-false p 0 z e)
 
+-- The place of a turn is above 0.
+pub place-above : (s : Pair) (p : ℕ) → isWide s ≡ true → 0 < pick (eqb p 0) (halfway s) p
+place-above s p w = by-test (eqb p 0) refl
+  where
+    by-test : (b : Bool) → eqb p 0 ≡ b → 0 < pick b (halfway s) p
+    by-test true e = omega (arith, ltb-true 1 (gap s) w)
+    by-test false e = let z = eqb-false p 0 e in omega (arith, z)
+
 -- ---- How many turns are left after a turn.
 module _ (left : ℕ) (some : 0 < left) where
   pub turns-some : (p : ℕ) → 0 < turnsLeft (eqb p 0) (pick (eqb p 0) (left - 1) left)

@@ -1,0 +1,50 @@
+-- As the series and the time error give it, by the first sums alone; place 0 is not asked for.
+use mathlib.Core.Path.{sym, ap, _∙_}
+use borrow.Author.Needs.{needs}
+use Rattle.search_points.specs.Trial.{evaluatedAt}
+use Rattle.search_points.proofs.Points.{finite-point, no-point, above-zero}
+use Rattle.search.proofs.turn.try_inner.Statement.{statement}
+use Rattle.search.proofs.turn.try_inner.Tie as tie
+
+anomaly-at-requires : tie.Need-anomaly-at-requires
+anomaly-at-requires c κs = search needs
+
+is-finite-requires : tie.Need-is-finite-requires
+is-finite-requires c κs = search needs
+
+first-sums-requires : tie.Need-first-sums-requires
+first-sums-requires c κs = search needs
+
+point-of-requires : tie.Need-point-of-requires
+point-of-requires c κs = search needs
+
+returns : tie.Need-returns
+returns c =
+    let a = c .before .before .before .before .before .before .before .args in
+    let psi = c .before .before .before .before .before .before .anomaly-at in
+    let f = c .before .first-sums in
+    let finite = sym (c .before .before .before .is-finite .ensures) ∙ c .before .before .if1 .taken in
+    finite-point (a .initial) (a .tau) (psi .result) (f .result) finite (f .ensures) (c .point-of .ensures)
+    ∙ ap (evaluatedAt (a .initial) (a .tau)) (psi .ensures) ∙ above-zero (a .initial) (a .tau) (a .place) (c .before .before .before .before .before .before .before .pre)
+
+unevaluated-as-requires : tie.Need-unevaluated-as-requires
+unevaluated-as-requires c κs = search needs
+
+returns-2 : tie.Need-returns-2
+returns-2 c =
+    let a = c .before .before .before .before .before .before .args in
+    let psi = c .before .before .before .before .before .anomaly-at in
+    no-point (a .initial) (a .tau) (psi .result) (sym (c .before .before .is-finite .ensures) ∙ c .before .if1 .left) (c .unevaluated-as .ensures)
+    ∙ ap (evaluatedAt (a .initial) (a .tau)) (psi .ensures) ∙ above-zero (a .initial) (a .tau) (a .place) (c .before .before .before .before .before .before .pre)
+
+pub try-inner-spec : {M : Type 1} → statement M
+try-inner-spec =
+    tie.close
+    (tie.spec
+    anomaly-at-requires
+    is-finite-requires
+    first-sums-requires
+    point-of-requires
+    returns
+    unevaluated-as-requires
+    returns-2)
