@@ -1,6 +1,6 @@
 #!/bin/sh
 # The wrong programs of tests/wrong/CRATE/, which the prover has to refuse. Those of crates/*/must-fail/ are tried by every run of the gate; these are tried here, since the
-# gate has to stay under ten minutes. They are edits of the same form, and are tried in a copy of the crates.
+# gate has to stay under fifteen minutes. They are edits of the same form, and are tried in a copy of the crates.
 set -eu
 cd "$(dirname "$0")/.."
 room=$(mktemp -d)

@@ -8,6 +8,7 @@ ghost use Rattle.bits.specs.Choice.{pick};
 ghost use Rattle.search_points.specs.Trial.{trialAt};
 ghost use Rattle.search_rule.specs.Rule.{attempt, isWide, halfway, counted};
 ghost use Rattle.search_proposals.specs.Proposals.{proposed};
+use bits::words::INFINITY;
 use bits::words::is_finite;
 use search_points::Initial;
 use search_points::Sort;
@@ -48,6 +49,9 @@ fn try_inner(initial: Initial, tau: Seconds, place: u64) -> Trial
     requires { ⌜ 0 < place ⌝ }
     ensures { λ r. ⌜ r ≡ trialAt initial tau place ⌝ }
 {
+    if INFINITY <= place {
+        return unevaluated_as(Sort::Unreadable);
+    }
     let psi = anomaly_at(tau, place);
     if is_finite(initial.alpha * (psi.0 * psi.0)) {
         let first = first_sums(initial.alpha, psi);

@@ -119,5 +119,8 @@ pub fn try_at(initial: Initial, tau: Seconds, place: u64) -> Trial
     if place == 0 {
         return at_zero(tau);
     }
+    if INFINITY <= place {
+        return unevaluated_as(Sort::Unreadable);
+    }
     evaluated(initial, tau, anomaly_at(tau, place))
 }

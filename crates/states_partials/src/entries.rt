@@ -1,5 +1,6 @@
 // The 36 partials, row by row.
 ghost use mathlib.Core.Path.{_≡_};
+ghost use Prim.Native.Nat.{_%_};
 ghost use Rattle.bits.specs.Words.{wordsOf};
 ghost use Rattle.states_partials.specs.Entries.{plusOf, minusOf, partialOf, componentOf, unitOf, entryOf, entriesOf};
 use super::matrix::Matrix;
@@ -70,19 +71,16 @@ fn partial(
     minus(factors.gprime, unit, a.a12, a.a13, a.a22, a.a23, p, w, q, u)
 }
 
-// The partial in a row and a column, 0 to 5 each.
-fn entry(arc: Arc, a: Matrix, row: usize, column: usize) -> f64
+// The partial in a row and a column, 0 to 5 each; p and w are the row's.
+fn entry(arc: Arc, a: Matrix, row: usize, column: usize, p: f64, w: f64) -> f64
+    requires { ⌜ (p ≡ componentOf (arc .end .position) (row % 3)) × (w ≡ componentOf (arc .end .velocity) (row % 3)) ⌝ }
     ensures { λ r. ⌜ r ≡ entryOf arc a row column ⌝ }
 {
-    let to = arc.end;
     let from = arc.start.state;
-    let i = row % 3;
     let j = column % 3;
-    let p = component(to.position, i);
-    let w = component(to.velocity, i);
     let q = component(from.position, j);
     let u = component(from.velocity, j);
-    let unit = unit_of(i, j);
+    let unit = unit_of(row % 3, j);
     partial(row < 3, column < 3, arc.factors, a, unit, p, w, q, u)
 }
 
@@ -92,12 +90,15 @@ pub fn entries(arc: Arc) -> [u64; 36]
     ensures { λ r. ⌜ r ≡ wordsOf (entriesOf arc) ⌝ }
 {
     let a = matrix_of(arc, u_of(arc));
+    let to = arc.end;
     let mut table = [0; 36];
     let mut row = 0usize;
     while row < 6 {
+        let p = component(to.position, row % 3);
+        let w = component(to.velocity, row % 3);
         let mut column = 0usize;
         while column < 6 {
-            table[6 * row + column] = word_of(entry(arc, a, row, column));
+            table[6 * row + column] = word_of(entry(arc, a, row, column, p, w));
             column += 1;
         }
         row += 1;

@@ -21,16 +21,16 @@ abbrev placed : Arc → Matrix → ℕ → Float
 placed arc a n = entryOf arc a (n / 6) (n % 6)
 
 abbrev Inv-loop2 : tie.InvT-loop2
-Inv-loop2 arc a table₀ row column₀ table column = (length table ≡ 36) × (column ≤ 6) × (take (6 * row + column) table ≡ wordsOf (upTo (6 * row + column) (placed arc a)))
+Inv-loop2 arc a to table₀ row p w column₀ table column = (length table ≡ 36) × (column ≤ 6) × (take (6 * row + column) table ≡ wordsOf (upTo (6 * row + column) (placed arc a)))
 
 abbrev μ-loop2 : tie.MeasureT-loop2
-μ-loop2 arc a table₀ row column₀ table column = 6 - column
+μ-loop2 arc a to table₀ row p w column₀ table column = 6 - column
 
 abbrev Inv-loop : tie.InvT-loop
-Inv-loop arc a table₀ row₀ table row = (length table ≡ 36) × (row ≤ 6) × (take (6 * row) table ≡ wordsOf (upTo (6 * row) (placed arc a)))
+Inv-loop arc a to table₀ row₀ table row = (length table ≡ 36) × (row ≤ 6) × (take (6 * row) table ≡ wordsOf (upTo (6 * row) (placed arc a)))
 
 abbrev μ-loop : tie.MeasureT-loop
-μ-loop arc a table₀ row₀ table row = 6 - row
+μ-loop arc a to table₀ row₀ table row = 6 - row
 
 words-append : (xs : List Float) (x : Float) → wordsOf xs ++ (toBits binary64 x ∷ []) ≡ wordsOf (xs ++ (x ∷ []))
 words-append [] x = refl
@@ -64,13 +64,19 @@ loop-holds : tie.Need-loop-holds Inv-loop2 μ-loop2 Inv-loop μ-loop
 unfolding upTo
 loop-holds c = (refl, omega arith, refl)
 
+component-requires : tie.Need-component-requires Inv-loop2 μ-loop2 Inv-loop μ-loop
+component-requires c κs = search needs
+
+component-requires-2 : tie.Need-component-requires-2 Inv-loop2 μ-loop2 Inv-loop μ-loop
+component-requires-2 c κs = search needs
+
 loop2-holds : tie.Need-loop2-holds Inv-loop2 μ-loop2 Inv-loop μ-loop
 loop2-holds c =
-    let o = c .before .loop in
+    let o = c .before .before .before .loop in
     (o .inv .0, omega arith, at-number _ (o .table) (omega arith) (o .inv .2))
 
 entry-requires : tie.Need-entry-requires Inv-loop2 μ-loop2 Inv-loop μ-loop
-entry-requires c κs = search needs
+entry-requires c κs = (c .before .before .before .component .ensures, c .before .before .component2 .ensures)
 
 word-of-requires : tie.Need-word-of-requires Inv-loop2 μ-loop2 Inv-loop μ-loop
 word-of-requires c κs = search needs
@@ -97,7 +103,7 @@ loop2-again : tie.Need-loop2-again Inv-loop2 μ-loop2 Inv-loop μ-loop
 loop2-again c =
     let e = c .before in
     let at = e .before .before .loop2 in
-    let o = e .before .before .before .before .loop in
+    let o = e .before .before .before .before .before .before .loop in
     let k = 6 * o .row + at .column in
     let w = c .word-of .ensures ∙ ap (toBits binary64) (e .entry .ensures ∙ in-place _ _ (o .row) (at .column) (e .before .loop2-test .taken)) in (
       length-set (at .table) k (c .word-of .result) ∙ at .inv .0,
@@ -122,7 +128,7 @@ loop-again c =
 returns : tie.Need-returns Inv-loop2 μ-loop2 Inv-loop μ-loop
 returns c =
     let at = c .before .loop in
-    let a = c .before .before in
+    let a = c .before .before .before in
     let e : 6 * at .row ≡ 36 = omega (arith, at .inv .1) in
     sym (take-all 36 (at .table) (omega (arith, at .inv .0))) ∙ at-number _ (at .table) e (at .inv .2) ∙ whole _ _ _ (a .before .u-of .ensures) (a .matrix-of .ensures)
 
@@ -137,6 +143,8 @@ entries-spec =
     u-of-requires
     matrix-of-requires
     loop-holds
+    component-requires
+    component-requires-2
     loop2-holds
     entry-requires
     word-of-requires

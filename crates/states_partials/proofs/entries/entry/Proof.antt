@@ -24,12 +24,6 @@ component-requires c κs = search needs
 component-requires-2 : tie.Need-component-requires-2
 component-requires-2 c κs = search needs
 
-component-requires-3 : tie.Need-component-requires-3
-component-requires-3 c κs = search needs
-
-component-requires-4 : tie.Need-component-requires-4
-component-requires-4 c κs = search needs
-
 unit-of-requires : tie.Need-unit-of-requires
 unit-of-requires c κs = search needs
 
@@ -38,9 +32,9 @@ partial-requires c κs = search needs
 
 returns : tie.Need-returns
 returns c =
-    let i = c .before in
-    let w = i .before .before .before in
-    assembled _ _ _ _ _ _ _ _ _ (w .before .component .ensures) (w .component2 .ensures) (i .before .before .component3 .ensures) (i .before .component4 .ensures) (i .unit-of .ensures) (c .partial .ensures)
+    let start = c .before .before .before .before .before in
+    assembled _ _ _ _ _ _ _ _ _ (start .pre .0) (start .pre .1) (c .before .before .before .component .ensures) (c .before .before .component2 .ensures) (c .before .unit-of .ensures)
+    (c .partial .ensures)
 
 pub entry-spec : {M : Type 1} → statement M
 entry-spec =
@@ -48,8 +42,6 @@ entry-spec =
     (tie.spec
     component-requires
     component-requires-2
-    component-requires-3
-    component-requires-4
     unit-of-requires
     partial-requires
     returns)
