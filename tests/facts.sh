@@ -76,7 +76,7 @@ kilobytes=$(sed -n 's/.*needs \([0-9]*\) KB of stack.*/\1/p' man/propagate.1)
 grep -q "in $kilobytes KB of stack" README.md || fail "README.md does not say that the program needs $kilobytes KB of stack"
 in_stack() {
     if [ "$(uname -m)" = x86_64 ]; then
-        (ulimit -s "$1" && build/propagate examples/orbits.elements)
+        (ulimit -s "$1" && env -i build/propagate examples/orbits.elements)     # the environment stands on the stack too
     else
         QEMU_STACK_SIZE=$(($1 * 1024)) sh tests/machine.sh run build/propagate examples/orbits.elements
     fi
