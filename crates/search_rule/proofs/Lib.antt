@@ -1,5 +1,5 @@
--- The laws of the history, for any trial function and any proposal (Counts to Refusals), and that what they ask for can be had (ToyWitness); what the code's proofs cite (Turns); and what each public function
--- leaves open.
+-- The laws of the history, for any trial function and any proposal (Counts to Refusals), and that what they ask for can be had (ToyWitness); what the code's
+-- proofs cite (Turns); and what each public function leaves open.
 pub mod Counts
 pub mod Rounds
 pub mod Reach
