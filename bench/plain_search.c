@@ -1,5 +1,6 @@
 /*
-**  The search for the anomaly in plain C: outward by doublings, then inward by proposals and halvings.
+**  The search for the anomaly in plain C: outward by doublings, then inward by proposals and halvings,
+**  and of the last two neighbours the nearer one.
 */
 #include "plain_parts.h"
 
@@ -77,6 +78,12 @@ static inline struct found ended(uint64_t refusal, uint64_t points, double psi)
     return f;
 }
 
+/* The end whose time error is the smaller one, and the low one on a tie. */
+static inline uint64_t nearer(const struct end *low, const struct end *high)
+{
+    return fabs(high->error) < fabs(low->error) ? high->place : low->place;
+}
+
 /* From a short and a past end; the past one was tried last, and p is its point. */
 static struct found inward(const struct orbit *o, uint64_t sign, struct end low, struct end high,
                            struct point p, uint64_t points)
@@ -103,7 +110,7 @@ static struct found inward(const struct orbit *o, uint64_t sign, struct end low,
             return ended(6, points, 0);
         }
     }
-    return ended(0, points, anomaly_at(sign, low.place));
+    return ended(0, points, anomaly_at(sign, nearer(&low, &high)));
 }
 
 struct found plain_search(const struct orbit *o)

@@ -120,6 +120,11 @@ uint64_t kelubashi1_root(uint64_t word, uint64_t *answer, size_t n);
 **     answer    refusal, points, position, velocity, acceleration at the end and at the start, and
 **               the anomaly psi, in the order of the constants above, which have the units
 **
+**  psi has the sign of tau, as -0 too, and is +0 for a tau of zero. At psi the time that the formulas
+**  give is tau, or else psi is one of two neighbouring doubles: at the inner one that time is short of
+**  tau, and at the outer one past it. Of these psi is the one with the smaller error in time, and the
+**  inner one where both errors are as large.
+**
 **  Refusals: 2 to 8, 60. "Too large" of 4 is said of distance, speed, energy and the first step.
 */
 KELUBASHI_STATUS

@@ -1,8 +1,9 @@
 /*
-**  Document 01's cases through the C face: P6 to P12, both zeros of tau, and runs of other lengths.
+**  Cases of documents 01 and 02 through the C face: P6 to P12, both zeros of tau, the nearer end (T-01),
+**  and runs of other lengths.
 **
-**  What is expected comes from document 01 alone: its marked cases, and its formulas worked out by
-**  hand where every step is exact. Words are taken by the header's names, so these are tried too.
+**  What is expected comes from the documents alone: marked cases, and formulas worked out by hand where
+**  every step is exact. Words are taken by the header's names, so these are tried too.
 */
 #include "kelubashi.h"
 
@@ -41,7 +42,21 @@ static const struct sample SAMPLES[] = {
     { "P12", { 0, 1, 0, 0, 0, 0x1p500, 0, 0x1p40 },
       { [KELUBASHI_REFUSAL] = 6, [KELUBASHI_POINTS] = 1 }, 0, 0 },
     { "tau +0", { 2197, 3, 4, 12, 5, 6, 7, 0 }, { AT_ONCE }, 0, -0.0 },
-    { "tau -0", { 2197, 3, 4, 12, 5, 6, 7, -0.0 }, { AT_ONCE }, 0, -0.0 }
+    { "tau -0", { 2197, 3, 4, 12, 5, 6, 7, -0.0 }, { AT_ONCE }, 0, -0.0 },
+
+    /*
+    **  At rest without a force the time error is x psi - tau. The first step vanishes; 0 is tried and is short, 2^-1022
+    **  is past, and so is the first proposal, 2^-1074. In units of that the errors at 0 and there are, for tau above
+    **  zero: -1 and 1, since 1.5 rounds to 2; -2 and 1.
+    */
+    { "T-01, a tie", { 0, 1.5, 0, 0, 0, 0, 0, 0x1p-1074 },
+      { [KELUBASHI_POINTS] = 3, [KELUBASHI_X] = 1.5, NO_FORCE, [KELUBASHI_PSI] = 0 }, 0x1p-1074, -0.0 },
+    { "T-01, a tie before the start", { 0, 1.5, 0, 0, 0, 0, 0, -0x1p-1074 },
+      { [KELUBASHI_POINTS] = 3, [KELUBASHI_X] = 1.5, NO_FORCE, [KELUBASHI_PSI] = -0.0 }, -0x1p-1074, 0 },
+    { "T-01, the past end", { 0, 3, 0, 0, 0, 0, 0, 0x1p-1073 },
+      { [KELUBASHI_POINTS] = 3, [KELUBASHI_X] = 3, NO_FORCE, [KELUBASHI_PSI] = 0x1p-1074 }, 0x1p-1073, -0.0 },
+    { "T-01, the past end before the start", { 0, 3, 0, 0, 0, 0, 0, -0x1p-1073 },
+      { [KELUBASHI_POINTS] = 3, [KELUBASHI_X] = 3, NO_FORCE, [KELUBASHI_PSI] = -0x1p-1074 }, -0x1p-1073, 0 }
 };
 
 static const struct sample *sample;
@@ -235,6 +250,6 @@ int main(void)
     }
     row();
     two_accelerations();
-    printf("cases: P6 to P12, both zeros of tau, runs of other lengths: %u calls, none differs\n", calls);
+    printf("cases: P6 to P12, both zeros of tau, the nearer end, runs of other lengths: %u calls, none differs\n", calls);
     return EXIT_SUCCESS;
 }

@@ -6,6 +6,7 @@ pub mod Answers
 pub mod Computed
 pub mod Exists
 pub mod Doubles
+pub mod Order
 pub mod RootLaws
 pub mod RunLaws
 pub mod OneAnswers

@@ -11,7 +11,7 @@ use Rattle.series.specs.Series.{beyondOne, reducedFrom, nested, c4Of, c5Of, atR
 use Rattle.search_points.specs.Residual.{timeErrorOf, radiusOf}
 use Rattle.search_points.specs.Trial.{anomalyAt, sortOf, evaluatedAt, trialAt}
 use Rattle.search_rule.specs.Rule.{onward, outward, halving, round, inward, history, counted}
-use Rattle.search.specs.Search.{searchBy}
+use Rattle.search.specs.Search.{searchChoosing}
 use Rattle.states_arcs.specs.Results.{factorsOf, endStateOf, arcOf, accelerationOf, resultsOf, figuresOf, endedOf}
 use Rattle.states_start.specs.Given.{readOf}
 use Rattle.states_start.specs.Initial.{dot, begunOf, firstStepOf}
@@ -100,5 +100,5 @@ table =
 
 -- Each case of the table gives what it must.
 pub marked : map (λ (c : Case). given (c .asked)) table ≡ map (λ (c : Case). c .must) table
-unfolding resultFile readingOf rowsOf rowOf requestWords propagateBy answerWords reachedWordsBy reachedOrbitBy reachedFromBy reachedFound endedAnswer answered refused readOf begunOf dot firstStepOf endedOf figuresOf resultsOf accelerationOf arcOf endStateOf factorsOf has firstOf searchBy history inward round halving outward onward counted trialAt evaluatedAt sortOf anomalyAt timeErrorOf radiusOf coefficientsOf sumsOf quotientsOf doublings atReduced c4Of c5Of nested reducedFrom beyondOne rootOf rootWordOf asBytes add sub mul div neg lt eq ne ofBits toBits
+unfolding resultFile readingOf rowsOf rowOf requestWords propagateBy answerWords reachedWordsBy reachedOrbitBy reachedFromBy reachedFound endedAnswer answered refused readOf begunOf dot firstStepOf endedOf figuresOf resultsOf accelerationOf arcOf endStateOf factorsOf has firstOf searchChoosing history inward round halving outward onward counted trialAt evaluatedAt sortOf anomalyAt timeErrorOf radiusOf coefficientsOf sumsOf quotientsOf doublings atReduced c4Of c5Of nested reducedFrom beyondOne rootOf rootWordOf asBytes add sub mul div neg lt eq ne ofBits toBits
 marked = refl

@@ -1,13 +1,14 @@
 -- The search of document 01 keeps its promise, with any proposal: the general theorems at its trial points.
 use Prim.Native.Nat.{ℕ, _+_, _≤_}
 use mathlib.Core.Path.{_≡_, refl, ap, _∙_, subst}
-use mathlib.Core.Bool.{false}
+use mathlib.Core.Bool.{Bool, true, false}
 use mathlib.Core.List.{List}
-use mathlib.Core.Logic.{inl, inr, ⊎-elim, _↔_}
+use mathlib.Core.Logic.{⊎-elim, _↔_}
 use native.Mathlib.Omega.{arith}
 use lib.ListN.{length}
 use lib.Ieee.{Float, neg, eq}
 use borrow.Author.Tests.{le-leb, ne-eqb}
+use Rattle.bits.specs.Choice.{pick}
 use Rattle.bits.specs.Arithmetic.{n0}
 use Rattle.bits.specs.Words.{infinity, placeOf}
 use Rattle.series.specs.declared.figures.Anomaly.{Anomaly}
@@ -15,16 +16,19 @@ use Rattle.series.specs.declared.figures.Seconds.{Seconds}
 use Rattle.search_points.specs.declared.figures.Initial.{Initial}
 use Rattle.search_points.specs.Trial.{anomalyAt, trialAt}
 use Rattle.search_rule.specs.Rule.{Point, Trials, Proposal, Ending, between, exact, unreadable, allShort, endingOf, nextOf, counted}
-use Rattle.search_rule.specs.RulePromise.{Sorts, IsFound, Findable, AllOutwardShort, SomeUnreadable, LastUnreadable}
+use Rattle.search_rule.specs.declared.pair.Next.{Next}
+use Rattle.search_rule.specs.declared.pair.Next.the-variants.{Between, Exact, Unreadable, AllShort}
+use Rattle.search_rule.specs.Nearer.{Choosing}
+use Rattle.search_rule.specs.RulePromise.{Sorts, IsFound, IsAnswer, IsAnomaly, Findable, AllOutwardShort, SomeUnreadable, LastUnreadable}
 use Rattle.search_rule.proofs.Counts.{counted-is}
 use Rattle.search_rule.proofs.Rounds.{points-sharp}
-use Rattle.search_rule.proofs.Reach.{finds}
+use Rattle.search_rule.proofs.Reach.{finds, found-answers}
 use Rattle.search_rule.proofs.Refusals.{all-short, all-short-points, some-unreadable, last-some, unreadable-last, ends-so}
 use Rattle.search_proposals.specs.Proposals.{threeProposals}
 use Rattle.search.specs.declared.figures.Finding.{Finding}
 use Rattle.search.specs.declared.figures.Finding.the-variants as finding
-use Rattle.search.specs.Search.{historyBy, findingOf, searchBy, searchOf}
-use Rattle.search.specs.SearchPromise.{IsAnomaly, usedIn, triedBy, triedAt, Says, Searched, Promise, Demand3}
+use Rattle.search.specs.Search.{historyBy, findingBy, findingOf, searchChoosing, searchBy, searchOf}
+use Rattle.search.specs.SearchPromise.{usedIn, triedBy, triedAt, Says, Searched, Promise, Demand3, SameButAnomaly, PointsStay}
 
 -- "Place 0 has R = −τ here"; "A place at or above 2047·2^52 is unreadable."
 pub sorts-at : (i : Initial) (tau : Seconds) → Sorts (trialAt i tau) (neg (tau .0))
@@ -46,12 +50,15 @@ module _ (tau : Seconds) (n : ℕ) where
   used-at unreadable = refl
   used-at allShort = refl
 
+  finding-answers : (e : Ending) (p : ℕ) → IsAnswer e p → findingAt e ≡ finding.Found (anomalyAt tau p) n
+  finding-answers (between s) p x = rw x
+  finding-answers (exact q) p x = rw x
+  finding-answers unreadable p x = absurd x
+  finding-answers allShort p x = absurd x
+
   module _ (i : Initial) where
-    found-at : (e : Ending) → IsFound (trialAt i tau) e → (p : ℕ) × (findingAt e ≡ finding.Found (anomalyAt tau p) n) × IsAnomaly i tau p
-    found-at (between s) x = (s .short .place, refl, inr (s .short .error, s .past .error, x .0, rw (x .2) at (x .1)))
-    found-at (exact p) x = (p, refl, inl x)
-    found-at unreadable x = absurd x
-    found-at allShort x = absurd x
+    found-at : (e : Ending) → IsFound (trialAt i tau) e → (p : ℕ) × (findingAt e ≡ finding.Found (anomalyAt tau p) n) × IsAnomaly (trialAt i tau) p
+    found-at e x = let a = found-answers (trialAt i tau) e x in (a .0, finding-answers e (a .0) (a .1), a .2)
 
 -- ---- What is found after the history at these points, with any proposal.
 module _ (pr : Proposal) (i : Initial) (tau : Seconds) (first : ℕ) where
@@ -100,7 +107,7 @@ module _ (pr : Proposal) (i : Initial) (tau : Seconds) (first : ℕ) where
 
 -- The search keeps its promise, whatever formula proposes the inner points; and so with document 01's.
 pub promise-by : (pr : Proposal) (i : Initial) (tau : Seconds) (h : Anomaly) → Promise pr i tau h (searchBy pr i tau h)
-unfolding searchBy
+unfolding searchChoosing
 promise-by pr i tau h = record { no-interval = λ e. rw e; interval = λ e. rw e (searched pr i tau (placeOf (h .0))) }
 
 pub promise : (i : Initial) (tau : Seconds) (h : Anomaly) → Promise (threeProposals i tau) i tau h (searchOf i tau h)
@@ -148,3 +155,21 @@ module _ (i : Initial) (tau : Seconds) (h : Anomaly) (interval : eq (tau .0) n0 
 
   pub refusal6-points : (n : ℕ) → searchOf i tau h ≡ finding.Unreadable n → (n ≡ length points) × LastUnreadable points
   refusal6-points n e = (rw e at (kept .counts), rw e at (kept .says))
+
+-- ---- The choice between the ends touches ψ alone.
+module _ (one other : Choosing) (tau : Seconds) where
+  finding-stays : (next : Next) → SameButAnomaly (findingBy one tau next) (findingBy other tau next)
+  finding-stays (Between s n) = refl
+  finding-stays (Exact p n) = refl
+  finding-stays (Unreadable n) = refl
+  finding-stays (AllShort n) = refl
+
+  picked-stays : (t : Bool) (a : Finding) (next : Next) →
+      SameButAnomaly a a → SameButAnomaly (pick t a (findingBy one tau next)) (pick t a (findingBy other tau next))
+  picked-stays true a next s = s
+  picked-stays false a next s = finding-stays next
+
+pub points-stay : PointsStay
+unfolding searchChoosing
+points-stay one other pr i tau h =
+    picked-stays one other tau (eq (tau .0) n0) (finding.Found (record { 0 = n0 }) 0) (counted 0 (historyBy pr i tau (placeOf (h .0)))) refl

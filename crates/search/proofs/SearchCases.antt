@@ -1,5 +1,5 @@
--- No interval, and two searches with many inner points, on in time and back, computed here from the definitions; the figures come from an independent program. Document 01's
--- marked cases are in the table of crate `files_results`.
+-- No interval; two searches with many inner points, on in time and back; and which end of a pair is answered, computed here from the definitions. The figures of the long
+-- searches come from an independent program, the others are worked out by hand. Document 01's marked cases are in the table of crate `files_results`.
 use Prim.Native.Nat.{ℕ}
 use mathlib.Core.Path.{_≡_, refl}
 use mathlib.Core.List.{List, [], _∷_}
@@ -15,10 +15,11 @@ use Rattle.search_points.specs.declared.figures.Sort.{Sort}
 use Rattle.search_points.specs.declared.figures.Sort.the-variants.{Short, Past, Exact}
 use Rattle.search_points.specs.Residual.{timeErrorOf, radiusOf}
 use Rattle.search_points.specs.Trial.{anomalyAt, sortOf, evaluatedAt, trialAt}
-use Rattle.search_rule.specs.Rule.{between, exact, unreadable, allShort, History, tries, ends, onward, outward, halving, inward, history}
+use Rattle.search_rule.specs.Rule.{between, exact, unreadable, allShort, History, tries, ends, onward, outward, halving, inward, history, counted}
 use Rattle.search_rule.specs.Rule as rule
+use Rattle.search_rule.specs.Nearer.{nearerEnd}
 use Rattle.search_proposals.specs.Proposals.{offeredAt, byRadius, byInterval, byEnds, proposed}
-use Rattle.search.specs.Search.{historyAt, searchBy, searchOf}
+use Rattle.search.specs.Search.{historyAt, searchChoosing, searchOf}
 
 -- Figures by their words.
 abbrev number : ℕ → Float
@@ -38,7 +39,7 @@ found psi points = finding.Found (anomaly psi) points
 
 -- "If τ is either zero, ψ = +0 with no trial points."
 pub no-interval : (i : Initial) (h : Anomaly) → (searchOf i (seconds 0) h ≡ found 0 0) × (searchOf i (seconds 0x8000000000000000) h ≡ found 0 0)
-unfolding ofBits eq searchBy
+unfolding ofBits eq searchChoosing
 no-interval i h = (refl, refl)
 
 -- A point: its place, and its sort with the word of its time error.
@@ -61,12 +62,16 @@ rows (ends (exact p)) = (p, Exact) ∷ []
 rows (ends unreadable) = []
 rows (ends allShort) = []
 
--- Every point that a search tries, in order, and then the two neighbours, or the exact point, with which it ends.
-abbrev Tries : Initial → Seconds → (h : Anomaly) → List Row → Type 0
-Tries i tau h points = rows (historyAt i tau (placeOf (h .0))) ≡ points
+-- What a search finds; and every point that it tries, in order, and then the two neighbours, or the exact point, with which it ends.
+abbrev Finds : Initial → Seconds → (h : Anomaly) → (psi points : ℕ) → Type 0
+Finds i tau h psi points = searchOf i tau h ≡ found psi points
+
+abbrev Tries : Initial → Seconds → (h : Anomaly) → List Row → (psi points : ℕ) → Type 0
+Tries i tau h tried psi points = (rows (historyAt i tau (placeOf (h .0))) ≡ tried) × Finds i tau h psi points
 
 -- A closed orbit: μ = 398600.4418 km^3/s^2, position (-2500, -4000, 2000) km, velocity (-6.8, -4.4, 8.7) km/s, τ = 1800 s. After 20 outward points there are
--- seven rounds, which take in turn the first, second, first, third and first proposal, none, and the first.
+-- seven rounds, which take in turn the first, second, first, third and first proposal, none, and the first. The errors of the last two neighbours are as large: the
+-- short end is answered.
 forward :
     Tries (initial 0x41185421c467381d 0x40b40379b2b2ef50 0x40e9640000000000 0xc02c9d883eb95380) (seconds 0x409c200000000000) (anomaly 0x3e967c17c4c5e46e)
     (
@@ -105,8 +110,9 @@ forward :
     ∷ short 0x3fc557f619cd935c 0xbd50000000000000
     ∷ past 0x3fc557f619cd935d 0x3d50000000000000
     ∷ [])
-unfolding ofBits toBits neg add sub mul div lt eq ne beyondOne reducedFrom nested c4Of c5Of atReduced doublings quotientsOf coefficientsOf sumsOf timeErrorOf radiusOf anomalyAt sortOf evaluatedAt trialAt onward outward halving rule.round inward history offeredAt byRadius byInterval byEnds proposed
-forward = refl
+    0x3fc557f619cd935c 32
+unfolding ofBits toBits neg add sub mul div lt eq ne beyondOne reducedFrom nested c4Of c5Of atReduced doublings quotientsOf coefficientsOf sumsOf timeErrorOf radiusOf anomalyAt sortOf evaluatedAt trialAt onward outward halving rule.round inward history counted offeredAt byRadius byInterval byEnds proposed nearerEnd searchChoosing
+forward = (refl, refl)
 
 -- Back in time: μ = 42828.37 km^3/s^2, position (3500, 900, -1200) km, velocity (0.4, -3.2, 1.9) km/s, τ = -3100 s. After 21 outward points there are six rounds,
 -- which take in turn the first, second, first, third, first and third proposal, and the last ends at an exact point.
@@ -147,5 +153,20 @@ backward :
     ∷ exactly 0x3fe30c9159b431de
     ∷ exactly 0x3fe30c9159b431de
     ∷ [])
-unfolding ofBits toBits neg add sub mul div lt eq ne beyondOne reducedFrom nested c4Of c5Of atReduced doublings quotientsOf coefficientsOf sumsOf timeErrorOf radiusOf anomalyAt sortOf evaluatedAt trialAt onward outward halving rule.round inward history offeredAt byRadius byInterval byEnds proposed
-backward = refl
+    0xbfe30c9159b431de 32
+unfolding ofBits toBits neg add sub mul div lt eq ne beyondOne reducedFrom nested c4Of c5Of atReduced doublings quotientsOf coefficientsOf sumsOf timeErrorOf radiusOf anomalyAt sortOf evaluatedAt trialAt onward outward halving rule.round inward history counted offeredAt byRadius byInterval byEnds proposed nearerEnd searchChoosing
+backward = (refl, refl)
+
+-- T-01 at place 0. At rest without a pull R is r0·ψ−τ. Here H is zero; the places tried are 0, 2^52, and 1 by the first proposal. In units of 2^-1074, the least double
+-- above zero: with r0 = 1.5 and τ = ±1, R is ∓1 at place 0 and, since 1.5 rounds to 2, ±1 at place 1: place 0, and ψ keeps the sign of τ. With r0 = 3 and τ = ±2,
+-- R is ∓2 at place 0 and ±1 at place 1: place 1.
+abbrev AtRest : (r0 tau psi : ℕ) → Type 0
+AtRest r0 tau psi = Finds (initial 0 r0 0 0) (seconds tau) (anomaly 0) psi 3
+
+place-zero :
+    AtRest 0x3ff8000000000000 0x0000000000000001 0x0000000000000000
+    × AtRest 0x3ff8000000000000 0x8000000000000001 0x8000000000000000
+    × AtRest 0x4008000000000000 0x0000000000000002 0x0000000000000001
+    × AtRest 0x4008000000000000 0x8000000000000002 0x8000000000000001
+unfolding ofBits toBits neg add sub mul div lt eq ne beyondOne reducedFrom nested c4Of c5Of atReduced doublings quotientsOf coefficientsOf sumsOf timeErrorOf radiusOf anomalyAt sortOf evaluatedAt trialAt onward outward halving rule.round inward history counted offeredAt byRadius byInterval byEnds proposed nearerEnd searchChoosing
+place-zero = (refl, refl, refl, refl)

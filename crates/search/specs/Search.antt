@@ -1,4 +1,5 @@
--- The search of document 01: the rule's history at the time error's trial points. It is written with any proposal; document 01's three are one instance.
+-- The search of document 01, with T-01 of document 02: the rule's history at the time error's trial points, and the end of its pair that is answered. It is written
+-- with any proposal; document 01's three are one instance.
 use Prim.Native.Nat.{ℕ}
 use mathlib.Core.List.{[]}
 use lib.Ieee.{neg, eq}
@@ -13,6 +14,7 @@ use Rattle.search_rule.specs.declared.pair.Pair.{Pair}
 use Rattle.search_rule.specs.declared.pair.Next.{Next}
 use Rattle.search_rule.specs.declared.pair.Next.the-variants.{Between, Exact, Unreadable, AllShort}
 use Rattle.search_rule.specs.Rule.{Proposal, History, outwardPart, inward, history, counted}
+use Rattle.search_rule.specs.Nearer.{Choosing, nearerEnd}
 use Rattle.search_proposals.specs.Proposals.{threeProposals}
 use Rattle.search.specs.declared.figures.Finding.{Finding}
 use Rattle.search.specs.declared.figures.Finding.the-variants as finding
@@ -31,19 +33,26 @@ outwardAt i tau first = outwardPart (trialAt i tau) first (neg (tau .0))
 abbrev pub inwardAt : Initial → Seconds → Pair → History
 inwardAt i tau s = inward (trialAt i tau) (threeProposals i tau) 63 0 [] s
 
--- "The found ψ is the exact point, or the short end."
-abbrev pub findingOf : Seconds → Next → Finding
-findingOf tau (Between s n) = finding.Found (anomalyAt tau (s .short .place)) n
-findingOf tau (Exact p n) = finding.Found (anomalyAt tau p) n
-findingOf tau (Unreadable n) = finding.Unreadable n
-findingOf tau (AllShort n) = finding.AllShort n
+-- The found ψ is the exact point, or the end of the pair that is chosen.
+abbrev pub findingBy : Choosing → Seconds → Next → Finding
+findingBy choose tau (Between s n) = finding.Found (anomalyAt tau (choose (s .short) (s .past) .place)) n
+findingBy choose tau (Exact p n) = finding.Found (anomalyAt tau p) n
+findingBy choose tau (Unreadable n) = finding.Unreadable n
+findingBy choose tau (AllShort n) = finding.AllShort n
 
--- "If τ is either zero, ψ = +0 with no trial points."
-unfoldable pub searchBy : Proposal → Initial → Seconds → (h : Anomaly) → Finding
-searchBy pr i tau h =
+-- T-01: "When the search closes on a pair, answer the end whose R has the smaller magnitude, the short one on a tie."
+abbrev pub findingOf : Seconds → Next → Finding
+findingOf tau next = findingBy nearerEnd tau next
+
+-- "If τ is either zero, ψ = +0 with no trial points." With any choice, so that it can be said what a choice does not touch (SearchPromise `PointsStay`).
+unfoldable pub searchChoosing : Choosing → Proposal → Initial → Seconds → (h : Anomaly) → Finding
+searchChoosing choose pr i tau h =
     pick (eq (tau .0) n0)
     (finding.Found (record { 0 = n0 }) 0)
-    (findingOf tau (counted 0 (historyBy pr i tau (placeOf (h .0)))))
+    (findingBy choose tau (counted 0 (historyBy pr i tau (placeOf (h .0)))))
+
+abbrev pub searchBy : Proposal → Initial → Seconds → (h : Anomaly) → Finding
+searchBy pr i tau h = searchChoosing nearerEnd pr i tau h
 
 abbrev pub searchOf : Initial → Seconds → (h : Anomaly) → Finding
 searchOf i tau h = searchBy (threeProposals i tau) i tau h

@@ -1,28 +1,23 @@
 -- What the search of document 01 promises, with any proposal: what its caller learns without opening the history.
-use Prim.Native.Nat.{ℕ, _+_, _≤_}
+use Prim.Native.Nat.{ℕ, _≤_}
 use mathlib.Core.Path.{_≡_}
 use mathlib.Core.Bool.{true, false}
 use mathlib.Core.List.{List}
-use mathlib.Core.Logic.{_⊎_}
 use lib.ListN.{length}
-use lib.Ieee.{Float, eq}
+use lib.Ieee.{eq}
 use Rattle.bits.specs.Arithmetic.{n0}
 use Rattle.bits.specs.Words.{placeOf}
 use Rattle.series.specs.declared.figures.Anomaly.{Anomaly}
 use Rattle.series.specs.declared.figures.Seconds.{Seconds}
 use Rattle.search_points.specs.declared.figures.Initial.{Initial}
-use Rattle.search_points.specs.declared.figures.Sort.the-variants.{Short, Past, Exact, Unreadable}
 use Rattle.search_points.specs.Trial.{anomalyAt, trialAt}
 use Rattle.search_rule.specs.Rule.{Point, Proposal, pointsIn}
-use Rattle.search_rule.specs.RulePromise.{Findable, AllOutwardShort, SomeUnreadable, LastUnreadable}
+use Rattle.search_rule.specs.Nearer.{Choosing}
+use Rattle.search_rule.specs.RulePromise.{Findable, IsAnomaly, AllOutwardShort, SomeUnreadable, LastUnreadable}
 use Rattle.search_proposals.specs.Proposals.{threeProposals}
 use Rattle.search.specs.declared.figures.Finding.{Finding}
 use Rattle.search.specs.declared.figures.Finding.the-variants as finding
-use Rattle.search.specs.Search.{historyBy}
-
--- An anomaly's place: the time error there is zero, or it is short and the very next place is past.
-abbrev pub IsAnomaly : Initial → Seconds → ℕ → Type 0
-IsAnomaly i tau p = (trialAt i tau p .sort ≡ Exact) ⊎ ((r r' : Float) × (trialAt i tau p .sort ≡ Short r) × (trialAt i tau (p + 1) .sort ≡ Past r'))
+use Rattle.search.specs.Search.{historyBy, searchChoosing}
 
 -- The points that a finding reports.
 abbrev pub usedIn : Finding → ℕ
@@ -39,7 +34,7 @@ triedAt i tau first = triedBy (threeProposals i tau) i tau first
 
 -- What a finding says, where tau isn't zero.
 abbrev pub Says : Proposal → Initial → Seconds → (first : ℕ) → Finding → Type 0
-Says pr i tau first (finding.Found psi n) = (p : ℕ) × (psi ≡ anomalyAt tau p) × IsAnomaly i tau p
+Says pr i tau first (finding.Found psi n) = (p : ℕ) × (psi ≡ anomalyAt tau p) × IsAnomaly (trialAt i tau) p
 Says pr i tau first (finding.AllShort n) = AllOutwardShort (trialAt i tau) first
 Says pr i tau first (finding.Unreadable n) = LastUnreadable (triedBy pr i tau first)
 
@@ -57,13 +52,26 @@ pub record Promise (pr : Proposal) (i : Initial) (tau : Seconds) (h : Anomaly) (
   pub no-interval : eq (tau .0) n0 ≡ true → a ≡ finding.Found (record { 0 = n0 }) 0
   pub interval : eq (tau .0) n0 ≡ false → Searched pr i tau (placeOf (h .0)) a
 
--- Demand 3, of the search: "an anomaly is found. Its computed time error is zero, or it is short of the time while the very next double outward is past it. At most
--- 167 trial points are spent, and the reported number is how many the search used." That is `at-most`; the places give a sharper bound, which is ours.
+-- Demand 3, of the search: "an anomaly is found. .. At most 167 trial points are spent, and the reported number is how many the search used." That is `at-most`; the
+-- places give a sharper bound, which is ours. What is found reads, since T-01: "a zero error, or one end of an adjacent short and past pair, chosen so."
 pub record Demand3 (pr : Proposal) (i : Initial) (tau : Seconds) (h : Anomaly) (a : Finding) : Type 0 where
   pub place : ℕ
   pub points : ℕ
   pub found : a ≡ finding.Found (anomalyAt tau place) points
-  pub anomaly : IsAnomaly i tau place
+  pub anomaly : IsAnomaly (trialAt i tau) place
   pub used : points ≡ length (triedBy pr i tau (placeOf (h .0)))
   pub at-most : points ≤ 167
   pub sharper : points ≤ 145
+
+-- ---- "Point counts stay." Two searches that differ in their choice between the ends differ in ψ alone: the history does not know of it.
+abbrev pub SameButAnomaly : Finding → Finding → Type 0
+SameButAnomaly (finding.Found psi n) (finding.Found psi' n') = n ≡ n'
+SameButAnomaly (finding.Found psi n) (finding.AllShort n') = ⊥
+SameButAnomaly (finding.Found psi n) (finding.Unreadable n') = ⊥
+SameButAnomaly (finding.AllShort n) a = a ≡ finding.AllShort n
+SameButAnomaly (finding.Unreadable n) a = a ≡ finding.Unreadable n
+
+abbrev pub PointsStay : Type 0
+PointsStay =
+    (one other : Choosing) (pr : Proposal) (i : Initial) (tau : Seconds) (h : Anomaly) →
+    SameButAnomaly (searchChoosing one pr i tau h) (searchChoosing other pr i tau h)

@@ -12,6 +12,7 @@ use search_rule::End;
 use search_rule::Next;
 use search_rule::Pair;
 use search_rule::Step;
+use search_rule::nearer_end;
 use search_rule::step_by;
 use series::Anomaly;
 use series::Seconds;
@@ -103,15 +104,18 @@ fn inward(initial: Initial, tau: Seconds, start: Pair, used: u64) -> Next
     Next::Between(pair, points)
 }
 
-// The found anomaly is the exact point, or the short end.
+// The found anomaly is the exact point, or the nearer end of the pair.
 fn finding_of(tau: Seconds, next: Next) -> Finding
     ensures { λ r. ⌜ r ≡ findingOf tau next ⌝ }
 {
     match next {
-        Next::Between(pair, points) => Finding::Found {
-            psi: anomaly_at(tau, pair.short.place),
-            points,
-        },
+        Next::Between(pair, points) => {
+            let end = nearer_end(pair.short, pair.past);
+            Finding::Found {
+                psi: anomaly_at(tau, end.place),
+                points,
+            }
+        }
         Next::Exact(place, points) => Finding::Found {
             psi: anomaly_at(tau, place),
             points,

@@ -22,7 +22,7 @@ use Rattle.search_points.specs.Meaning.{errorAt, isOpposite, errorOfPlac
 -- What a sort says of an error whose place is 0 or not, beyond the last number's or not, and whose L is finite or not.
 abbrev Says : (tau : Seconds) (error : Float) (at-zero : Bool) (beyond : Bool) (finite : Bool) → Sort → Type 0
 Says tau error z b f Exact = eq error n0 ≡ true
-Says tau error z b f (Short r) = (z ≡ true) ⊎ ((r ≡ error) × (isOpposite tau r ≡ true))
+Says tau error z b f (Short r) = ((z ≡ true) × (r ≡ neg (tau .0))) ⊎ ((r ≡ error) × (isOpposite tau r ≡ true))
 Says tau error z b f (Past r) = (r ≡ error) × (ne r r ≡ false) × (eq r n0 ≡ false) × (isOpposite tau r ≡ false)
 Says tau error z b f Unreadable = (b ≡ true) ⊎ ((f ≡ false) ⊎ (ne error error ≡ true))
 
@@ -61,7 +61,7 @@ module _ (i : Initial) (tau : Seconds) where
     where
       go : (z b : Bool) → Says tau (errorOfPlace i tau p) z b (isFinite (firstL (i .alpha) (anomalyAt tau p)))
           (pick z (unevaluated (Short (neg (tau .0)))) (pick b (unevaluated Unreadable) (evaluatedAt i tau (anomalyAt tau p))) .sort)
-      go true b = inl refl
+      go true b = inl (refl, refl)
       go false true = inl refl
       go false false = evaluated-says (anomalyAt tau p) false false
 
@@ -70,6 +70,6 @@ module _ (i : Initial) (tau : Seconds) where
       record {
         unreadable = λ e. ⊎-elim (λ b. inl (leb-true infinity p b)) inr (subst (SaysAt p) e (trial-says p));
         exact = λ e. subst (SaysAt p) e (trial-says p);
-        short = λ r e. ⊎-elim (λ z. inl (eqb-true p 0 z)) inr (subst (SaysAt p) e (trial-says p));
+        short = λ r e. ⊎-elim (λ z. inl (eqb-true p 0 (z .0), z .1)) inr (subst (SaysAt p) e (trial-says p));
         past = λ r e. subst (SaysAt p) e (trial-says p);
       }

@@ -3,7 +3,7 @@ use mathlib.Core.Path.{_≡_}
 use mathlib.Core.Bool.{Bool, true, false}
 use mathlib.Core.Logic.{_⊎_}
 use Prim.Native.Nat.{ℕ, _≤_}
-use lib.Ieee.{Float, lt, eq, ne}
+use lib.Ieee.{Float, neg, lt, eq, ne}
 use Rattle.bits.specs.Choice.{pick}
 use Rattle.bits.specs.Arithmetic.{_⊕_, _⊖_, _⊗_, n0, isFinite}
 use Rattle.bits.specs.Words.{infinity}
@@ -29,11 +29,11 @@ abbrev pub errorOfPlace : Initial → Seconds → (place : ℕ) → Float
 errorOfPlace i tau p = errorAt i tau (anomalyAt tau p)
 
 -- A place from 2047·2^52 on is that of a ψ that is not finite.
--- "place 0 is short; ψ or L not finite, or R NaN: unreadable; R = 0: exact; R with the sign opposite to τ: short; else past."
+-- "place 0 is short; ψ or L not finite, or R NaN: unreadable; R = 0: exact; R with the sign opposite to τ: short; else past." "Place 0 has R = −τ here."
 pub record SortsMean (i : Initial) (tau : Seconds) (p : ℕ) : Type 0 where
   pub unreadable :
       trialAt i tau p .sort ≡ Unreadable
       → (infinity ≤ p) ⊎ ((isFinite (firstL (i .alpha) (anomalyAt tau p)) ≡ false) ⊎ (ne (errorOfPlace i tau p) (errorOfPlace i tau p) ≡ true))
   pub exact : trialAt i tau p .sort ≡ Exact → eq (errorOfPlace i tau p) n0 ≡ true
-  pub short : (r : Float) → trialAt i tau p .sort ≡ Short r → (p ≡ 0) ⊎ ((r ≡ errorOfPlace i tau p) × (isOpposite tau r ≡ true))
+  pub short : (r : Float) → trialAt i tau p .sort ≡ Short r → ((p ≡ 0) × (r ≡ neg (tau .0))) ⊎ ((r ≡ errorOfPlace i tau p) × (isOpposite tau r ≡ true))
   pub past : (r : Float) → trialAt i tau p .sort ≡ Past r → (r ≡ errorOfPlace i tau p) × (ne r r ≡ false) × (eq r n0 ≡ false) × (isOpposite tau r ≡ false)

@@ -15,7 +15,8 @@ use Rattle.search_rule.specs.declared.pair.End.{End}
 use Rattle.search_rule.specs.declared.pair.Pair.{Pair}
 use Rattle.search_rule.specs.Rule.{Trials, Proposal, Ending, between, exact, unreadable, allShort, History, endingOf, endAt, outwardBy, goingOn}
 use Rattle.search_rule.specs.Rule.{outward, outwardPart, movedBy, moved, inward, history}
-use Rattle.search_rule.specs.RulePromise.{IsShort, outPoint, Sorts, FirstNotShort, ReadableUpTo, IsShortEnd, IsPastEnd, IsFound, Finds}
+use Rattle.search_rule.specs.RulePromise.{IsShort, outPoint, Sorts, FirstNotShort, ReadableUpTo, IsShortEnd, IsPastEnd, IsFound, Finds, IsAnswer, IsAnomaly, Answers}
+use Rattle.search_rule.specs.Nearer.{nearerEnd}
 use Rattle.search_rule.proofs.Rounds.{NoWider, onward-no-wider, inward-no-wider}
 
 -- A pair that holds: its ends are what it says, in order, and not beyond the first outward point that isn't short.
@@ -119,13 +120,23 @@ module _ (ev : Trials) (pr : Proposal) (first : ℕ) (error : Float) (sorts : So
 pub found : (ev : Trials) (top : ℕ) (e : Ending) → NoWider (Reached ev top) 1 e → IsFound ev e ⊎ ((e ≡ unreadable) × (ReadableUpTo ev top → ⊥))
 found ev top (between s) x =
     let h = x .0 in
-    inl (h .short-is, h .past-is, omega (arith, h .order, x .1))
+    inl (record { short-is = h .short-is; past-is = h .past-is; adjacent = omega (arith, h .order, x .1) })
 found ev top (exact p) x = inl (x .0)
 found ev top unreadable x = inr (refl, λ r. r (x .0) (x .2) (x .1))
 found ev top allShort x = absurd x
 
--- Demand 3.
+-- Demand 3, of the pair.
 pub finds : Finds
 finds ev pr first error sorts f =
     ⊎-elim (λ x. x) (λ u. absurd (u .1 (f .readable)))
     (found ev (outPoint first (f .k)) (endingOf (history ev pr first error)) (history-reached ev pr first error sorts (f .k) (f .first-not-short)))
+
+-- What is found answers an anomaly; so demand 3, as T-01 has it.
+pub found-answers : (ev : Trials) (e : Ending) → IsFound ev e → (p : ℕ) × IsAnswer e p × IsAnomaly ev p
+found-answers ev (between s) x = (nearerEnd (s .short) (s .past) .place, refl, inr (s .short, s .past, x, refl))
+found-answers ev (exact p) x = (p, refl, inl x)
+found-answers ev unreadable x = absurd x
+found-answers ev allShort x = absurd x
+
+pub answers : Answers
+answers ev pr first error sorts f = found-answers ev (endingOf (history ev pr first error)) (finds ev pr first error sorts f)

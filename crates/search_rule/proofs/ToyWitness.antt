@@ -11,8 +11,8 @@ use Rattle.search_points.specs.declared.figures.Sort.{Sort}
 use Rattle.search_points.specs.declared.figures.Sort.the-variants.{Short, Past, Unreadable}
 use Rattle.search_points.specs.Trial.{unevaluated}
 use Rattle.search_rule.specs.Rule.{Trials, Proposal, history, endingOf}
-use Rattle.search_rule.specs.RulePromise.{Sorts, IsShort, outPoint, FirstNotShort, Findable, IsFound}
-use Rattle.search_rule.proofs.Reach.{finds}
+use Rattle.search_rule.specs.RulePromise.{Sorts, IsShort, outPoint, FirstNotShort, Findable, IsFound, IsAnswer, IsAnomaly}
+use Rattle.search_rule.proofs.Reach.{finds, answers}
 
 pub toySort : ℕ → Sort
 toySort p = pick (ltb p 8) (Short n1) (pick (ltb p (2 ^ 63)) (Past n1) Unreadable)
@@ -59,6 +59,9 @@ toy-findable =
       readable = λ q l. readable-at q (omega arith);
     }
 
--- So an anomaly is found there, whatever proposes.
+-- So an anomaly is found there, whatever proposes; and one is answered.
 pub toy-found : (pr : Proposal) → IsFound toy (endingOf (history toy pr 1 n1))
 toy-found pr = finds toy pr 1 n1 toy-sorts toy-findable
+
+pub toy-answers : (pr : Proposal) → (p : ℕ) × IsAnswer (endingOf (history toy pr 1 n1)) p × IsAnomaly toy p
+toy-answers pr = answers toy pr 1 n1 toy-sorts toy-findable

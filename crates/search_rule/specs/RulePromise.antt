@@ -9,6 +9,7 @@ use Rattle.search_points.specs.declared.figures.Sort.the-variants.{Short, Past,
 use Rattle.search_rule.specs.declared.pair.End.{End}
 use Rattle.search_rule.specs.Rule.{Point, Trials, Proposal, Ending, between, exact, unreadable, allShort, History, endingOf, onward, outwardPart}
 use Rattle.search_rule.specs.Rule.{inward, history}
+use Rattle.search_rule.specs.Nearer.{nearerEnd}
 
 -- What the rule asks of a trial function: place 0 is short, with the error given, and no place from 2 ^ 63 on is readable.
 pub record Sorts (ev : Trials) (error : Float) : Type 0 where
@@ -40,8 +41,8 @@ pub record FirstNotShort (ev : Trials) (first n k : ℕ) : Type 0 where
   pub not-short : IsShort (ev (outPoint first k) .sort) → ⊥
 
 -- ---- Demand 3: "If some of the 41 outward trial points isn't short of the time, and no double from zero to the first such point is unreadable, an anomaly is
--- found. Its computed time error is zero, or it is short of the time while the very next double outward is past it. .. All but the number's exact size must hold
--- whatever formula proposes the inner points, one a round."
+-- found. .. All but the number's exact size must hold whatever formula proposes the inner points, one a round." What is found reads, since T-01: "a zero error,
+-- or one end of an adjacent short and past pair, chosen so."
 
 -- No place up to p is unreadable.
 abbrev pub ReadableUpTo : Trials → ℕ → Type 0
@@ -62,15 +63,37 @@ IsShortEnd ev e = ev (e .place) .sort ≡ Short (e .error)
 abbrev pub IsPastEnd : Trials → End → Type 0
 IsPastEnd ev e = ev (e .place) .sort ≡ Past (e .error)
 
--- An anomaly is found: its time error is zero, or it is short and the very next place is past.
+-- "an adjacent short and past pair"
+pub record Neighbours (ev : Trials) (short past : End) : Type 0 where
+  pub short-is : IsShortEnd ev short
+  pub past-is : IsPastEnd ev past
+  pub adjacent : past .place ≡ short .place + 1
+
+-- The search closed on such a pair, or at a zero error.
 abbrev pub IsFound : Trials → Ending → Type 0
-IsFound ev (between s) = IsShortEnd ev (s .short) × IsPastEnd ev (s .past) × (s .past .place ≡ s .short .place + 1)
+IsFound ev (between s) = Neighbours ev (s .short) (s .past)
 IsFound ev (exact p) = ev p .sort ≡ Exact
 IsFound ev unreadable = ⊥
 IsFound ev allShort = ⊥
 
 abbrev pub Finds : Type 0
 Finds = (ev : Trials) (pr : Proposal) (first : ℕ) (error : Float) → Sorts ev error → Findable ev first → IsFound ev (endingOf (history ev pr first error))
+
+-- The place that an ending answers.
+abbrev pub IsAnswer : Ending → (place : ℕ) → Type 0
+IsAnswer (between s) p = p ≡ nearerEnd (s .short) (s .past) .place
+IsAnswer (exact q) p = p ≡ q
+IsAnswer unreadable p = ⊥
+IsAnswer allShort p = ⊥
+
+-- An anomaly's place: "a zero error, or one end of an adjacent short and past pair, chosen so."
+abbrev pub IsAnomaly : Trials → (place : ℕ) → Type 0
+IsAnomaly ev p = (ev p .sort ≡ Exact) ⊎ ((short past : End) × Neighbours ev short past × (p ≡ nearerEnd short past .place))
+
+abbrev pub Answers : Type 0
+Answers =
+    (ev : Trials) (pr : Proposal) (first : ℕ) (error : Float) → Sorts ev error → Findable ev first →
+    (p : ℕ) × IsAnswer (endingOf (history ev pr first error)) p × IsAnomaly ev p
 
 -- However it ends: an anomaly is found, an unreadable point was tried, or all outward points were short.
 abbrev pub EndsAs : Trials → Ending → Type 0

@@ -6,4 +6,5 @@ pub use pair::Next;
 pub use pair::Pair;
 pub use pair::Step;
 pub use pair::moved_by;
+pub use pair::nearer_end;
 pub use pair::step_by;

@@ -1,6 +1,8 @@
 // The two ends between which the anomaly lies, and what a tried point makes of them. Nothing here evaluates a point.
 ghost use mathlib.Core.Path.{_≡_};
 ghost use Rattle.search_rule.specs.Rule.{isWide, moved, outwardStep, nextOf, stepOf};
+ghost use Rattle.search_rule.specs.Nearer.{nearerEnd};
+use bits::words::magnitude_of;
 use search_points::Sort;
 use search_points::Terms;
 use search_points::Trial;
@@ -86,4 +88,14 @@ pub fn moved_by(pair: Pair, place: u64, t: Trial, points: u64) -> Next
         ),
         Step::Stop(next) => next,
     }
+}
+
+// The end whose time error has the smaller magnitude, and the short one on a tie.
+pub fn nearer_end(short: End, past: End) -> End
+    ensures { λ r. ⌜ r ≡ nearerEnd short past ⌝ }
+{
+    if magnitude_of(past.error) < magnitude_of(short.error) {
+        return past;
+    }
+    short
 }

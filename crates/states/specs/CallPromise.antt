@@ -9,9 +9,9 @@ use lib.ListN.{length}
 use Rattle.bits.specs.Arithmetic.{n0, isFinite}
 use Rattle.bits.specs.Words.{placeOf}
 use Rattle.search_points.specs.Trial.{anomalyAt, trialAt}
-use Rattle.search_rule.specs.RulePromise.{Findable}
+use Rattle.search_rule.specs.RulePromise.{Findable, IsAnomaly}
 use Rattle.search.specs.Search.{Proposing}
-use Rattle.search.specs.SearchPromise.{IsAnomaly, triedBy}
+use Rattle.search.specs.SearchPromise.{triedBy}
 use Rattle.series.specs.declared.figures.Seconds.{Seconds}
 use Rattle.states_arcs.specs.Results.{arcOf, resultsOf}
 use Rattle.states_start.specs.Given.{readOf}
@@ -50,13 +50,13 @@ pub record Searches (words : List ℕ) : Type 0 where
 abbrev pub firstPlace : Start → Seconds → ℕ
 firstPlace s tau = placeOf (firstStepOf (s .initial) tau .0)
 
--- "Its computed time error is zero, or it is short of the time while the very next double outward is past it. At most 167 trial points are spent, and the reported
--- number is how many the search used. The call answers with that anomaly or refuses by 7 or 8 alone."
--- The anomaly is `anomalyAt tau place`, and what `IsAnomaly` says of it by sorts is said by document 01's R in `sorts-mean` of crate `search_points`.
+-- "At most 167 trial points are spent, and the reported number is how many the search used. The call answers with that anomaly or refuses by 7 or 8 alone."
+-- The anomaly is `anomalyAt tau place`. It has, since T-01, "a zero error, or [is] one end of an adjacent short and past pair, chosen so": `IsAnomaly`. What that says by
+-- sorts is said by document 01's R in `sorts-mean` of crate `search_points`.
 pub record AnswersAt (pr : Proposing) (s : Start) (tau : Seconds) (a : Answer) : Type 0 where
   pub place : ℕ
   pub points : ℕ
-  pub anomaly : IsAnomaly (s .initial) tau place
+  pub anomaly : IsAnomaly (trialAt (s .initial) tau) place
   pub used : points ≡ length (triedBy (pr (s .initial) tau) (s .initial) tau (firstPlace s tau))
   pub at-most : points ≤ 167
   pub answer :

@@ -1,10 +1,13 @@
--- Each arm is the definition at the end that the match showed.
+-- Each arm is the definition at the ending that the match showed.
 use borrow.Author.Needs.{needs}
 use Rattle.search.proofs.finding_of.Statement.{statement}
 use Rattle.search.proofs.finding_of.Tie as tie
 
 enum-known-next : tie.Need-enum-known-next
 enum-known-next c = search needs
+
+nearer-end-requires : tie.Need-nearer-end-requires
+nearer-end-requires c κs = search needs
 
 anomaly-at-requires : tie.Need-anomaly-at-requires
 anomaly-at-requires c κs = search needs
@@ -22,7 +25,7 @@ enum-known-next-4 : tie.Need-enum-known-next-4
 enum-known-next-4 c = search needs
 
 returns : tie.Need-returns
-returns c = simp (c .before .before .next .given .1, c .anomaly-at .ensures)
+returns c = simp (c .before .before .before .next .given .1, c .anomaly-at .ensures, c .before .nearer-end .ensures)
 
 returns-2 : tie.Need-returns-2
 returns-2 c = simp (c .before .before .next2 .given .1, c .anomaly-at2 .ensures)
@@ -38,6 +41,7 @@ finding-of-spec =
     tie.close
     (tie.spec
     enum-known-next
+    nearer-end-requires
     anomaly-at-requires
     enum-known-next-2
     anomaly-at-requires-2

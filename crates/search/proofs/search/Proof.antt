@@ -15,7 +15,7 @@ use Rattle.search_rule.specs.declared.pair.Next.{Next}
 use Rattle.search_points.specs.Trial.{trialAt}
 use Rattle.search_proposals.specs.Proposals.{proposed, threeProposals}
 use Rattle.search_rule.specs.Rule.{endAt, inward, history, counted}
-use Rattle.search.specs.Search.{outwardAt, inwardAt, historyAt, findingOf, searchBy, searchOf}
+use Rattle.search.specs.Search.{outwardAt, inwardAt, historyAt, findingOf, searchChoosing, searchOf}
 use Rattle.search_rule.proofs.Counts.{outward-points}
 use Rattle.search_rule.proofs.Turns.{after, followed, between-used, handed-on, inward-same}
 use Rattle.search.proofs.search.Statement.{statement}
@@ -31,11 +31,11 @@ whole i tau h e o =
 
 of-interval : (i : Initial) (tau : Seconds) (h : Anomaly) → eq (tau .0) n0 ≡ false
     → findingOf tau (counted 0 (historyAt i tau (placeOf (h .0)))) ≡ searchOf i tau h
-unfolding searchBy
+unfolding searchChoosing
 of-interval i tau h e = sym (rw e)
 
 returns : tie.Need-returns
-unfolding searchBy
+unfolding searchChoosing
 returns c = simp (c .if1 .taken)
 
 place-requires : tie.Need-place-requires
