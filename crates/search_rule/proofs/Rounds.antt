@@ -66,10 +66,10 @@ module _ (K : Ending → Type 0) where
     halving-no-wider g s g1 k w =
         pick-holds (λ (h : History). NoWider K g (endingOf h)) (isWide s)
         (λ e.
-        let o : 1 < gap s = ltb-true 1 (gap s) e in
+        let o = ltb-true _ (gap s) e in
         moved-no-wider g s (halfway s) k (omega arith) (omega arith) (omega arith) (omega arith))
         (λ e.
-        let o : gap s ≤ 1 = ltb-false 1 (gap s) e in
+        let o = ltb-false _ (gap s) e in
         (k, omega arith))
 
     module _ (pr : Proposal) where
@@ -97,7 +97,7 @@ module _ (K : Ending → Type 0) where
           (round-no-wider (2 ^ left + w) n tried s (omega (arith, pow-pos left)) k (omega (arith, pow-suc 2 left)))
           (λ t s' k' w'. inward-no-wider left (n + 1) t s' w k' w'))
           (λ e.
-          let o : gap s ≤ 1 = ltb-false 1 (gap s) e in
+          let o = ltb-false _ (gap s) e in
           (k, omega arith))
 
 -- ---- So many rounds are enough.
