@@ -191,7 +191,7 @@ commanded: machine command build/tests/kelubashi_faulty build/tests/second_resul
 
 SECOND = $(patsubst %,build/tests/second/%.o,root series search states files)
 TRACED = $(SECOND:build/tests/second/%=build/tests/traced/%)
-SELFTEST = $(patsubst %,build/tests/second/selftest%.o,_root _calls _orbits _files)
+SELFTEST = $(patsubst %,build/tests/second/selftest%.o,_root _calls _search _orbits _files)
 HEADERS = $(wildcard include/*.h command/*.h command/parts/*.h tests/*.h tests/second/*.h)
 
 # The command: plain C99 and POSIX, with no warning of conversions either.

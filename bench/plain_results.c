@@ -1,5 +1,5 @@
 /*
-**  The result file of an element file, in plain C of document 01's rules. Words are copied as they lie: x86-64 has the lowest byte first, as the files have.
+**  The result file of an element file, in plain C of the same rules. Words are copied as they lie: x86-64 has the lowest byte first, as the files have.
 */
 #include "plain.h"
 

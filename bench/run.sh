@@ -62,7 +62,9 @@ compile_plugin() {
 
 # An emulator that is linked statically takes no plugin, as Debian's from release 13 on; its log says the same, more slowly.
 choose() {
-    command -v qemu-x86_64 >/dev/null || fail 'no emulator to count with; as root on Debian: apt-get install qemu-user'
+    command -v qemu-x86_64 >/dev/null ||
+        sh "$here/../tests/packages.sh" bench 'there is no emulator to count with' "$build/bench/packages.log" qemu-user
+    command -v qemu-x86_64 >/dev/null || fail "installing qemu-user did not help: $build/bench/packages.log has what was tried"
     count=by_plugin passes=20
     if command -v cc >/dev/null && compile_plugin && counts by_plugin; then
         return

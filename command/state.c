@@ -54,7 +54,7 @@ static void show_answer(const double *given, const struct kelubashi_answer *answ
     show_three("velocity", "km/s", answer->velocity);
     show_three("acceleration", "km/s^2", answer->end_acceleration);
 
-    printf("\n  anomaly psi %.15g s/km, found with %" PRIu64 " trial points\n", answer->psi, answer->points);
+    printf("\n  anomaly psi %.17g s/km, found with %" PRIu64 " trial points\n", answer->psi, answer->points);
 }
 
 static enum status run(const struct call *call)

@@ -33,7 +33,7 @@ static void tell_answer(const struct kelubashi_answer *answer)
     tell_three("velocity", "km/s", answer->velocity);
     tell_three("acceleration", "km/s^2", answer->end_acceleration);
     tell_three("acceleration at start", "km/s^2", answer->start_acceleration);
-    printf("\n  anomaly psi %.15g s/km, found with %" PRIu64 " trial points\n", answer->psi, answer->points);
+    printf("\n  anomaly psi %.17g s/km, found with %" PRIu64 " trial points\n", answer->psi, answer->points);
 }
 
 /* The upper left of the partials: where the end goes when the start is moved. */

@@ -5,7 +5,7 @@
 **  number comes out of a volatile place. Numbers are compared as words, since a processor that takes
 **  subnormals for zero finds them equal to zero.
 **
-**  What is expected is document 01's, or the second program's (tests/second) where a case has a name
+**  What is expected is the documents', or the second program's (tests/second) where a case has a name
 **  instead of a number. It never was the library's own answer.
 */
 #include "kelubashi_selfcheck.h"
@@ -170,6 +170,15 @@ static const struct orbit {
         W(C0150E62B9ED9113), W(40138A3372492FDB), W(C001008399837D4E),
         W(3F6417F40ABC4A15), W(BF44479A5505B8A2), W(BF7E2DCB015D1E5D),
         W(BF5447A4212919BD), W(3F6474C1D838DE06), W(BF7DE6D274723B3D), W(3FB57EB46E0E62BE) } },
+
+    /* the same for 960 s: the outer of the last two neighbours has the smaller error, and is psi */
+    { "the nearer end",
+      { W(41185421C467381D), W(4091AD5C28F5C28F), W(C0A1D4AF9DB22D0E), W(40BA106C49BA5E35),
+        W(C016927BB2FEC56D), W(4011369C23B7952D), W(40036E297396D091), W(408E000000000000) },
+      { 0, 54, W(C0AED4E220B3B4BA), W(40A18CBB3B99CF0E), W(40B5AB4DEB3629CD),
+        W(C01027950F66FB50), W(401150A2A52DD539), W(C0123DBF4759A2F4),
+        W(3F717CFBF77CC45F), W(BF63E8B6FD30B6D4), W(BF78950F5E86CEB5),
+        W(BF5447A4212919BD), W(3F6474C1D838DE06), W(BF7DE6D274723B3D), W(3FC12EC66FFED0D2) } },
 
     /* mu 368 * 2^-1074, at 3 4 12 with vy 2^-1030, for 1 s: velocity and accelerations are subnormal */
     { "the subnormal orbit",

@@ -120,10 +120,10 @@ uint64_t kelubashi1_root(uint64_t word, uint64_t *answer, size_t n);
 **     answer    refusal, points, position, velocity, acceleration at the end and at the start, and
 **               the anomaly psi, in the order of the constants above, which have the units
 **
-**  psi has the sign of tau, as -0 too, and is +0 for a tau of zero. At psi the time that the formulas
-**  give is tau, or else psi is one of two neighbouring doubles: at the inner one that time is short of
-**  tau, and at the outer one past it. Of these psi is the one with the smaller error in time, and the
-**  inner one where both errors are as large.
+**  psi has the sign of tau, even as a zero (-0 for tau below zero); for a tau of zero it is +0. Either
+**  the computed time at psi is tau, or psi is one of two neighbouring doubles: at the one nearer to
+**  zero the time is short of tau, and at the other past it. psi is then the one with the smaller error
+**  in time; if the errors are equal in size, or both infinite, it is the one nearer to zero.
 **
 **  Refusals: 2 to 8, 60. "Too large" of 4 is said of distance, speed, energy and the first step.
 */

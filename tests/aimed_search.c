@@ -92,7 +92,7 @@ void small_interval(uint64_t *words)
     thrown(words, mu, r, speed, tau);
 }
 
-/* The found psi is place 0: the first place above it is past, since r0 times it is above tau. */
+/* The short end is place 0: the first place above it is past, since r0 times it is above tau, most often by far. */
 void place_zero(uint64_t *words)
 {
     int q = any_from(1, 330);
@@ -112,6 +112,79 @@ void exact(uint64_t *words)
     p[axis] = any_sign(ldexp(one_in(2) ? 1 : any_from(1, 9), q));
     q += any_from(-60, 60);
     put(words, mu, p, at_rest, any_sign(ldexp(any_from(1, 99), q)));
+}
+
+/*
+**  Both ends of a pair where all is a small whole number of least doubles: R is r0 n - t there, whatever mu and v are.
+**  Every choice is met, with place 0 as the short end where t is below r0.
+*/
+void least_units(uint64_t *words)
+{
+    int r = any_from(2, 9), t = any_from(1, one_in(4) ? 99 : r - 1), axis = any_from(0, 2);
+    double p[3] = { 0, 0, 0 }, v[3], mu = one_in(3) ? 0.0 : any_sign(around(-60, 60));
+    double speed = one_in(3) ? 0.0 : around(-60, 60);
+    int i;
+
+    p[axis] = any_sign(r);
+    any_direction(v);
+    for (i = 0; i < 3; i++)
+        v[i] *= speed;
+    put(words, mu, p, v, any_sign(ldexp(t, -1074)));
+}
+
+/*
+**  Ties at plain scale. At rest on an axis r0 psi goes by one or two last places of such a tau; where it goes by two,
+**  the tau between has R of one place on either side.
+*/
+void even_ends(uint64_t *words)
+{
+    int q = any_from(-200, 200), axis = any_from(0, 2);
+    double p[3] = { 0, 0, 0 }, mu = any_sign(0.0), r = ldexp(between(1.25, 1.75), q), tau;
+
+    p[axis] = any_sign(r);
+    q += any_from(-60, 60);
+    tau = ldexp(between(1.75, 2), q);
+    put(words, mu, p, at_rest, any_sign(tau));
+}
+
+/* A finite R, short, beside an infinite one, past: the cube of psi overflows before r0 psi comes up to tau. */
+void infinite_past(uint64_t *words)
+{
+    double r = around(-20, 20), mu = r * around(-1000, -700), tau = any_sign(r * around(342, 360));
+
+    thrown(words, mu, r, one_in(2) ? 0.0 : around(-700, -400), tau);
+}
+
+/*
+**  An infinite R, short, beside a past end whose R is infinite too, or finite. Straight at the centre with no pull,
+**  r0 s1 and sigma0 s2 cancel but for rounding; so where they overflow, it is a matter of chance which of them is infinite, and
+**  R is another from place to place. A search over many found these: position, velocity, tau. The powers of two below,
+**  on position and velocity, leave them as they are, and so do signs.
+*/
+void infinite_short(uint64_t *words)
+{
+    static const double found[][7] = {
+        /* both infinite: the short end is answered, and the past end would be 7 */
+        { 0x1.037bb20f1afbbp+491, 0x1.d64693a2888fcp+482, 0x1.d0872067c9e0ap+485,
+          -0x1.0622d704b7ff6p-241, -0x1.db156d710d8b5p-250, -0x1.d546eefdc2992p-247, 0x1.9217fa2addf2dp+758 },
+        { 0x1.026a1d03d4cc2p+483, 0x1.c258f99cfe5d1p+473, 0x1.782261b16fdfap+473,
+          -0x1.053149bf8894p-236, -0x1.c7305ce98fe93p-246, -0x1.7c2d8789c6b1ep-246, 0x1.a3b724ce432b2p+745 },
+        /* the past one finite: it is 7, and the short end would be answered */
+        { 0x1.031fb37a86f8ap+448, 0x1.a38b2ba94bc8fp+443, 0x1.c4a12a1099b74p+437,
+          -0x1.06ac0794c6383p-219, -0x1.a949d503366ddp-224, -0x1.cad3cdff114aap-230, 0x1.e99dc690d411ap+693 },
+        { 0x1.01eb8f33b31fap+444, 0x1.691b4cd1d46a1p+436, 0x1.dd2a27be9aa2cp+435,
+          -0x1.064fbe5cc6fb5p-217, -0x1.6f413d00f8be5p-225, -0x1.e549f335c5568p-226, 0x1.f032595753393p+688 },
+    };
+    const double *one = found[any_below(sizeof found / sizeof found[0])];
+    double scale = power(-3, 15), back = any_sign(1.0), p[3], v[3], mu = any_sign(0.0);
+    int i;
+
+    for (i = 0; i < 3; i++) {
+        double side = any_sign(scale);
+        p[i] = side * one[i];
+        v[i] = back * side * one[3 + i];
+    }
+    put(words, mu, p, v, back * one[6]);
 }
 
 /* Refusal 7: straight at the centre with no pull, or with a little, until r is but rounding. */

@@ -14,6 +14,9 @@ enum aim {
     SUBNORMAL_H, H_AT_ZERO, ALPHA_ZERO,
     L_AT_ONE, L_NOT_FINITE, R_NAN, R_SHORT, R_PAST, READABLE_NO_MORE,
     FOUND_AT_ZERO, FOUND_AT_MINUS_ZERO, EXACT_OUTWARD, EXACT_INWARD,
+    PAST_NEARER, SHORT_NEARER, FINITE_TIE, SUBNORMAL_TIE, BOTH_INFINITE, INFINITE_ANSWERED,
+    SHORT_INFINITE, PAST_INFINITE,
+    ZERO_BY_TIE, MINUS_ZERO_BY_TIE, ZERO_NEARER, MINUS_ZERO_NEARER, PAST_ZERO, PAST_MINUS_ZERO,
     NOT_ABOVE, INFINITE_RADIUS, START_ACCELERATION, PARTIALS_ONLY,
     AIMS
 };
@@ -23,6 +26,10 @@ static const char *const names[AIMS] = {
     "subnormal H", "H at place 0", "alpha zero",
     "L of size 1", "L not finite", "R NaN", "R infinite and short", "R infinite and past", "6 after a past point",
     "psi +0 for a tau above zero", "psi -0 for a tau below zero", "exact outward", "exact inward",
+    "past end nearer", "short end nearer", "finite tie", "subnormal tie",
+    "both R infinite", "both R infinite and psi answered",
+    "past end beside an infinite R", "short end beside an infinite R",
+    "+0 by a tie", "-0 by a tie", "+0 nearer", "-0 nearer", "place 1 past +0", "place 1 past -0",
     "7 by r at zero or below", "an infinite r answered", "8 with no start acceleration", "8 by the partials only",
 };
 
@@ -83,6 +90,47 @@ static int see_outward(const struct start *s)
     return sort;
 }
 
+/* Two errors of one size: the short end is found. */
+static void see_tie(double psi, double size, uint64_t propagated)
+{
+    seen[sec_finite(size) ? FINITE_TIE : BOTH_INFINITE]++;
+    seen[INFINITE_ANSWERED] += !sec_finite(size) && propagated == 0;
+    seen[SUBNORMAL_TIE] += sec_word(size) < STEP;
+    if (sec_zero(psi))
+        seen[sec_negative(psi) ? MINUS_ZERO_BY_TIE : ZERO_BY_TIE]++;
+}
+
+static void see_short(double psi, double beyond)
+{
+    seen[SHORT_NEARER]++;
+    seen[PAST_INFINITE] += !sec_finite(beyond);
+    if (sec_zero(psi))
+        seen[sec_negative(psi) ? MINUS_ZERO_NEARER : ZERO_NEARER]++;
+}
+
+static void see_past(double psi, double before)
+{
+    seen[PAST_NEARER]++;
+    seen[SHORT_INFINITE] += !sec_finite(before);
+    if (sec_word(sec_size(psi)) == 1)
+        seen[sec_negative(psi) ? PAST_MINUS_ZERO : PAST_ZERO]++;
+}
+
+/* The pair that was closed on: by its sort, the found psi is one end, and the place above or below it the other. */
+static void see_pair(const struct start *s, double psi, double error, uint64_t propagated)
+{
+    uint64_t word = sec_word(psi);
+    int past = sec_negative(error) == sec_negative(s->tau);
+    double other = sec_figures(s, sec_double(past ? word - 1 : word + 1)).error;
+
+    if (past)
+        see_past(psi, other);
+    else if (sec_size(error) == sec_size(other))
+        see_tie(psi, sec_size(error), propagated);
+    else
+        see_short(psi, other);
+}
+
 static void see_found(const struct start *s, int sort, uint64_t propagated)
 {
     struct found found = sec_search(s);
@@ -97,6 +145,8 @@ static void see_found(const struct start *s, int sort, uint64_t propagated)
     seen[FOUND_AT_MINUS_ZERO] += sec_zero(found.psi) && sec_word(found.psi) != 0;
     seen[EXACT_OUTWARD] += sort == 0;
     seen[EXACT_INWARD] += sort == 1 && sec_zero(at.error);
+    if (!sec_zero(at.error))
+        see_pair(s, found.psi, at.error, propagated);
     seen[NOT_ABOVE] += at.radius <= 0;
     seen[INFINITE_RADIUS] += !sec_finite(at.radius) && propagated == 0;
     if (propagated == 8 && !sec_zero(cube))

@@ -46,8 +46,8 @@ static const struct sample SAMPLES[] = {
 
     /*
     **  At rest without a force the time error is x psi - tau. The first step vanishes; 0 is tried and is short, 2^-1022
-    **  is past, and so is the first proposal, 2^-1074. In units of that the errors at 0 and there are, for tau above
-    **  zero: -1 and 1, since 1.5 rounds to 2; -2 and 1.
+    **  is past, and so is the first proposal, 2^-1074. In units of that, for tau above zero, the errors at 0 and there
+    **  are -1 and 1 in the first two cases, since 1.5 rounds to 2, and -2 and 1 in the last two.
     */
     { "T-01, a tie", { 0, 1.5, 0, 0, 0, 0, 0, 0x1p-1074 },
       { [KELUBASHI_POINTS] = 3, [KELUBASHI_X] = 1.5, NO_FORCE, [KELUBASHI_PSI] = 0 }, 0x1p-1074, -0.0 },

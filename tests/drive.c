@@ -66,7 +66,7 @@ static void repeat(void)
         return;
     }
     printf("%s: repeat it with: make fuzz FUZZ=build/tests/%s N=1 SEED=%" PRIu64 " FIRST=%" PRIu64
-           "; document 01 decides who is wrong\n",
+           "; the documents decide who is wrong\n",
            drive_name, drive_name, seed, first + done - 1);
     fflush(stdout);
 }

@@ -149,7 +149,7 @@ static void repeat(void)
             snprintf(name, sizeof name, "NAME (it could not be written: it is above)");
         printf(" %s", name);
     }
-    printf("'; document 01 decides who is wrong\n");
+    printf("'; the documents decide who is wrong\n");
 }
 
 /* ---- one input again ---- */

@@ -17,17 +17,8 @@ fail() {
 # ---- pkg-config: where root, install it; else ask for it.
 
 if ! command -v pkg-config >/dev/null; then
-    advice='as root on Debian: apt-get install pkgconf'
-    if [ "$(id -u)" -ne 0 ] || ! command -v apt-get >/dev/null; then
-        fail "pkg-config is not found; $advice"
-    fi
-    echo 'install: installing pkgconf'
-    export DEBIAN_FRONTEND=noninteractive
-    log=build/install.log
-    get='apt-get install -y -qq --no-install-recommends pkgconf'
-    # a fresh machine has no lists of packages, or old ones
-    { $get || { apt-get update -qq && $get; }; } >"$log" 2>&1 || true
-    command -v pkg-config >/dev/null || fail "installing did not help: pkg-config is not found; $advice ($log has what was tried)"
+    sh tests/packages.sh install 'pkg-config is not found' build/install.log pkgconf
+    command -v pkg-config >/dev/null || fail 'pkg-config is not found, and installing pkgconf did not help: build/install.log has what was tried'
 fi
 
 # ---- The files: what is copied, and nothing else.

@@ -9,7 +9,8 @@
 # compiler and its user emulator. Link dynamically: the cross compiler's static libm is broken.
 set -eu
 
-build=$(dirname "$0")/../build
+here=$(dirname "$0")
+build=$here/../build
 machine=$(uname -m)
 case $machine in
 x86_64) packages='gcc libc6-dev' ;;
@@ -46,28 +47,17 @@ works() {
     compile -o "$build/trial" "$build/trial.c" && run "$build/trial"
 }
 
-install() {
-    export DEBIAN_FRONTEND=noninteractive
-    # shellcheck disable=SC2086 # a list of words
-    apt-get install -y -qq --no-install-recommends $packages
-}
-
 ready() {
     mkdir -p "$build"
     log=$build/machine.log
     if works >"$log" 2>&1; then
         return
     fi
-    advice="as root on Debian: apt-get install $packages (build/machine.log has what was tried)"
-    if [ "$(id -u)" -ne 0 ] || ! command -v apt-get >/dev/null; then
-        echo "machine: C for x86-64 cannot be compiled and run here; $advice" >&2
-        exit 1
-    fi
-    echo "machine: installing $packages"
-    # a fresh machine has no lists of packages, or old ones
-    { install || { apt-get update -qq && install; }; } >>"$log" 2>&1 || true
+    what='C for x86-64 cannot be compiled and run here'
+    # shellcheck disable=SC2086 # a list of words
+    sh "$here/packages.sh" machine "$what" "$log" $packages
     if ! works >>"$log" 2>&1; then
-        echo "machine: installing did not help: C for x86-64 cannot be compiled and run here; $advice" >&2
+        echo "machine: $what, and installing $packages did not help: build/machine.log has what was tried" >&2
         exit 1
     fi
 }

@@ -24,16 +24,10 @@ works() {
 
 if ! works >"$room/log" 2>&1; then
     packages='gcc libc6-dev libc6-dbg valgrind'
-    advice="as root on Debian: apt-get install $packages ($room/log has what was tried)"
-    if [ "$(id -u)" -ne 0 ] || ! command -v apt-get >/dev/null; then
-        fail "cc with sanitizers, or valgrind, does not work here; $advice"
-    fi
-    echo "sanitize: installing $packages"
-    export DEBIAN_FRONTEND=noninteractive
-    get="apt-get install -y -qq --no-install-recommends $packages"
-    # a fresh machine has no lists of packages, or old ones
-    { $get || { apt-get update -qq && $get; }; } >>"$room/log" 2>&1 || true
-    works >>"$room/log" 2>&1 || fail "installing did not help: cc with sanitizers, or valgrind, does not work here; $advice"
+    what='cc with sanitizers, or valgrind, does not work here'
+    # shellcheck disable=SC2086 # a list of words
+    sh tests/packages.sh sanitize "$what" "$room/log" $packages
+    works >>"$room/log" 2>&1 || fail "$what, and installing $packages did not help: $room/log has what was tried"
 fi
 
 # ---- The programs, once with sanitizers and once plain.

@@ -198,8 +198,8 @@ static int ended(enum sort sort)
 }
 
 /* Inward, in rounds while the places differ by more than 1: a proposal, then,
- * if they still do, the halving place.  The answer is SHORT when the ends have
- * met, else the sort of the point that ended the search. */
+ * if they still do, the halving place.  The answer is the sort of the point
+ * that ended the search, or SHORT, which ends none, when the ends have met. */
 static enum sort inward(struct search *q)
 {
     uint64_t place;
@@ -221,6 +221,23 @@ static enum sort inward(struct search *q)
     return SHORT;
 }
 
+/* Two errors of one size, also where both are infinite. */
+static int tie(const struct point *low, const struct point *high)
+{
+    return sec_size(low->error) == sec_size(high->error);
+}
+
+/* T-01: of a pair, the end whose error has the smaller size; the short one on
+ * a tie.  It asks nothing of how the pair was found. */
+static double nearer(const struct point *low, const struct point *high)
+{
+    if (tie(low, high))
+        return low->psi;
+    if (sec_size(high->error) < sec_size(low->error))
+        return high->psi;
+    return low->psi;
+}
+
 static struct found close_search(unsigned refusal, uint64_t points, double psi)
 {
     struct found f;
@@ -232,7 +249,7 @@ static struct found close_search(unsigned refusal, uint64_t points, double psi)
 }
 
 /* Either zero of tau gives +0 with no points; 41 short points are refusal 5,
- * an unreadable point is 6; found is the exact point or the short end. */
+ * an unreadable point is 6; found is the exact point or the nearer end. */
 struct found sec_search(const struct start *s)
 {
     struct search q;
@@ -251,5 +268,5 @@ struct found sec_search(const struct start *s)
         return close_search(6, q.points, 0.0);
     if (sort == EXACT)
         return close_search(0, q.points, q.last.psi);
-    return close_search(0, q.points, q.low.psi);
+    return close_search(0, q.points, nearer(&q.low, &q.high));
 }

@@ -117,6 +117,7 @@ int main(void)
     printf("second program, its self-test:\n");
     selftest_root();
     selftest_calls();
+    selftest_search();
     selftest_orbits();
     selftest_files();
     printf("second program: %lu checks, %lu faults\n", checks, faults);

@@ -35,6 +35,7 @@ void orbit(double e[8], int kind, double mu, double r);
 /* The groups, by what they are about. */
 void selftest_root(void);
 void selftest_calls(void);
+void selftest_search(void);
 void selftest_orbits(void);
 void selftest_files(void);
 

@@ -130,57 +130,6 @@ static void test_places(void)
     group("35, 36, 37 partial places");
 }
 
-/* ---- search ---- */
-
-/* At rest without a pull, R is r0 psi - tau and r is r0. */
-static void expect_at_rest(double x, double tau, uint64_t psi,
-                           uint64_t points, const char *what)
-{
-    double e[8] = {0, 0, 0, 0, 0, 0, 0, 0};
-    uint64_t a[15];
-
-    e[1] = x;
-    e[7] = tau;
-    check(propagate(e, a) == 0 && a[1] == points && a[14] == psi, what);
-    e[7] = -tau;
-    check(propagate(e, a) == 0 && a[1] == points
-              && a[14] == (psi | MINUS_ZERO), what);
-}
-
-/* Cases whose whole history follows from the rule by hand. */
-static void test_search(void)
-{
-    double least = ldexp(1.0, -1074);
-    double e[8] = {0, 1, 0, 0, 0, 0, 0, 0};
-
-    /* H is 0: place 0 is a point, 2^-1022 is past, psi - R/r is exact. */
-    expect_at_rest(1.0, 3 * least, 3, 3, "H at place 0");
-    /* Place 0, then 2^-1022 past; no proposal ever leaves place 0 or has the
-     * sign of tau, so the halving places 2^51, 2^50 to 1 are all past: 2 + 52
-     * points, and the short end is place 0. */
-    expect_at_rest(2.0, least, 0, 54, "found at place 0");
-    /* H is 2^-2, and 20 doublings bring it to tau. */
-    expect_at_rest(1.0, ldexp(1.0, 18), sec_word(ldexp(1.0, 18)), 21,
-                   "exact at k = 20");
-    /* psi cubed underflows, so mu s3 is 0, and r0 s1 stays far below tau. */
-    e[0] = ldexp(1.0, 954);
-    e[7] = ldexp(1.0, -450);
-    expect_refusal(e, 5, 41, "41 short points");
-    e[7] = -e[7];
-    expect_refusal(e, 5, 41, "41 short points, tau below zero");
-    /* psi psi is infinite and alpha 0: L is NaN at the first point. */
-    e[0] = 0;
-    e[7] = ldexp(1.0, 532);
-    expect_refusal(e, 6, 1, "L is NaN");
-    /* L is 0, but psi cubed is infinite at the first point and mu is 0. */
-    e[7] = ldexp(1.0, 520);
-    expect_refusal(e, 6, 1, "mu s3 is 0 times infinity");
-    /* psi cubed overflows at 2^342, after the short 2^332 to 2^341. */
-    e[7] = ldexp(1.0, 352);
-    expect_refusal(e, 6, 11, "R is NaN after ten short points");
-    group("search by hand, refusals 5 and 6");
-}
-
 /* Refusal 8: cubes that vanish, and the partials' own product of cubes. */
 static void test_divisors(void)
 {
@@ -209,6 +158,5 @@ void selftest_calls(void)
     test_inputs();
     test_zero_interval();
     test_places();
-    test_search();
     test_divisors();
 }

@@ -8,21 +8,34 @@
 #include <stdio.h>
 #include <string.h>
 
-/* The found place is exact, or short with its upper neighbour past. */
-static void check_adjacent(const double e[8], const uint64_t a[15])
+/* The time error at a place, above zero where it is past. */
+static double beyond(const struct start *s, uint64_t psi)
+{
+    double error = sec_figures(s, sec_double(psi)).error;
+
+    return sec_negative(s->tau) ? -error : error;
+}
+
+/* The found place is exact; or short, and its upper neighbour is past and no
+ * nearer; or past, and its lower neighbour is short and farther. */
+static void check_found(const double e[8], const uint64_t a[15])
 {
     struct start s;
-    double psi = sec_double(a[14]), next, sign = e[7] < 0 ? -1.0 : 1.0;
-    double error;
+    double error, other;
 
     check(sec_start(e, &s) == 0, "start refused");
-    error = sec_figures(&s, psi).error * sign;
     check(a[1] >= 1 && a[1] <= 167, "points out of bounds");
-    if (error == 0)
-        return;
-    check(error < 0, "found point is not short");
-    next = sec_double(a[14] + 1);
-    check(sec_figures(&s, next).error * sign > 0, "neighbour is not past");
+    error = beyond(&s, a[14]);
+    if (error < 0) {
+        other = beyond(&s, a[14] + 1);
+        check(other > 0, "upper neighbour is not past");
+        check(other >= -error, "past neighbour is nearer");
+    } else if (error > 0) {
+        other = beyond(&s, a[14] - 1);
+        check(other < 0, "lower neighbour is not short");
+        check(-other > error, "short neighbour is as near");
+    } else
+        check(error == 0, "error is not a number");
 }
 
 static double length3(const double v[3])
@@ -126,7 +139,7 @@ static void test_physics(void)
             orbit(e, kind, i % 2 ? 398600.4418 : 1.0,
                   i % 2 ? between(6600, 45000) : between(0.5, 2));
             check(propagate(e, a) == 0, "orbit refused");
-            check_adjacent(e, a);
+            check_found(e, a);
             check_conserved(e, a);
             check_return(e, a);
             if (a[1] > most)
@@ -213,7 +226,7 @@ static void test_partials(void)
     printf("  largest relative gap: %.2e\n", worst);
 }
 
-/* Any bits at all: bounds, zeros in refusals, adjacency when found. */
+/* Any bits at all: bounds, zeros in refusals, the nearer end when found. */
 static void test_any_bits(void)
 {
     uint64_t a[15], b[15], run[36], seen[10] = {0};
@@ -245,7 +258,7 @@ static void test_any_bits(void)
         check(b[0] == a[0] || (a[0] == 0 && b[0] == 8 && b[1] == a[1]),
               "any bits: same refusal");
         if (a[0] == 0 && !sec_zero(e[7]))
-            check_adjacent(e, a);
+            check_found(e, a);
     }
     group("any bits");
     printf("  refusals 0 to 8 seen:");

@@ -18,7 +18,7 @@ use Rattle.search_points.specs.Trial.{anomalyAt, trialAt}
 use Rattle.search_rule.specs.Rule.{Point, Trials, Proposal, Ending, between, exact, unreadable, allShort, endingOf, nextOf, counted}
 use Rattle.search_rule.specs.declared.pair.Next.{Next}
 use Rattle.search_rule.specs.declared.pair.Next.the-variants.{Between, Exact, Unreadable, AllShort}
-use Rattle.search_rule.specs.Nearer.{Choosing}
+use Rattle.search_rule.specs.Nearer.{Choosing, shortEnd}
 use Rattle.search_rule.specs.RulePromise.{Sorts, IsFound, IsAnswer, IsAnomaly, Findable, AllOutwardShort, SomeUnreadable, LastUnreadable}
 use Rattle.search_rule.proofs.Counts.{counted-is}
 use Rattle.search_rule.proofs.Rounds.{points-sharp}
@@ -157,19 +157,19 @@ module _ (i : Initial) (tau : Seconds) (h : Anomaly) (interval : eq (tau .0) n0 
   refusal6-points n e = (rw e at (kept .counts), rw e at (kept .says))
 
 -- ---- The choice between the ends touches ψ alone.
-module _ (one other : Choosing) (tau : Seconds) where
-  finding-stays : (next : Next) → SameButAnomaly (findingBy one tau next) (findingBy other tau next)
+module _ (choose : Choosing) (tau : Seconds) where
+  finding-stays : (next : Next) → SameButAnomaly (findingBy shortEnd tau next) (findingBy choose tau next)
   finding-stays (Between s n) = refl
   finding-stays (Exact p n) = refl
   finding-stays (Unreadable n) = refl
   finding-stays (AllShort n) = refl
 
   picked-stays : (t : Bool) (a : Finding) (next : Next) →
-      SameButAnomaly a a → SameButAnomaly (pick t a (findingBy one tau next)) (pick t a (findingBy other tau next))
+      SameButAnomaly a a → SameButAnomaly (pick t a (findingBy shortEnd tau next)) (pick t a (findingBy choose tau next))
   picked-stays true a next s = s
   picked-stays false a next s = finding-stays next
 
 pub points-stay : PointsStay
 unfolding searchChoosing
-points-stay one other pr i tau h =
-    picked-stays one other tau (eq (tau .0) n0) (finding.Found (record { 0 = n0 }) 0) (counted 0 (historyBy pr i tau (placeOf (h .0)))) refl
+points-stay choose pr i tau h =
+    picked-stays choose tau (eq (tau .0) n0) (finding.Found (record { 0 = n0 }) 0) (counted 0 (historyBy pr i tau (placeOf (h .0)))) refl

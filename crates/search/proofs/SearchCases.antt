@@ -1,6 +1,6 @@
 -- No interval; two searches with many inner points, on in time and back; and which end of a pair is answered, computed here from the definitions. The figures of the long
 -- searches come from an independent program, the others are worked out by hand. Document 01's marked cases are in the table of crate `files_results`.
-use Prim.Native.Nat.{ℕ}
+use Prim.Native.Nat.{ℕ, _+_}
 use mathlib.Core.Path.{_≡_, refl}
 use mathlib.Core.List.{List, [], _∷_}
 use lib.Ieee.{Float, binary64, ofBits, toBits, neg, add, sub, mul, div, lt, eq, ne}
@@ -15,11 +15,11 @@ use Rattle.search_points.specs.declared.figures.Sort.{Sort}
 use Rattle.search_points.specs.declared.figures.Sort.the-variants.{Short, Past, Exact}
 use Rattle.search_points.specs.Residual.{timeErrorOf, radiusOf}
 use Rattle.search_points.specs.Trial.{anomalyAt, sortOf, evaluatedAt, trialAt}
-use Rattle.search_rule.specs.Rule.{between, exact, unreadable, allShort, History, tries, ends, onward, outward, halving, inward, history, counted}
+use Rattle.search_rule.specs.Rule.{Ending, between, exact, unreadable, allShort, History, tries, ends, nextOf, onward, outward, halving, inward, history, counted}
 use Rattle.search_rule.specs.Rule as rule
 use Rattle.search_rule.specs.Nearer.{nearerEnd}
 use Rattle.search_proposals.specs.Proposals.{offeredAt, byRadius, byInterval, byEnds, proposed}
-use Rattle.search.specs.Search.{historyAt, searchChoosing, searchOf}
+use Rattle.search.specs.Search.{historyAt, findingOf, searchChoosing, searchOf}
 
 -- Figures by their words.
 abbrev number : ℕ → Float
@@ -42,32 +42,33 @@ pub no-interval : (i : Initial) (h : Anomaly) → (searchOf i (seconds 0) h ≡ 
 unfolding ofBits eq searchChoosing
 no-interval i h = (refl, refl)
 
--- A point: its place, and its sort with the word of its time error.
-abbrev Row : Type 0
-Row = ℕ × Sort
+-- A point: its place, and its sort with the word of its time error. What is found: its anomaly, and the points.
+data Row : Type 0 where
+  point : ℕ → Sort → Row
+  finds : Finding → Row
 
 abbrev short : (place error : ℕ) → Row
-short place error = (place, Short (number error))
+short place error = point place (Short (number error))
 
 abbrev past : (place error : ℕ) → Row
-past place error = (place, Past (number error))
+past place error = point place (Past (number error))
 
 abbrev exactly : (place : ℕ) → Row
-exactly place = (place, Exact)
+exactly place = point place Exact
 
-abbrev rows : History → List Row
-rows (tries p h) = (p .place, p .trial .sort) ∷ rows h
-rows (ends (between s)) = (s .short .place, Short (s .short .error)) ∷ (s .past .place, Past (s .past .error)) ∷ []
-rows (ends (exact p)) = (p, Exact) ∷ []
-rows (ends unreadable) = []
-rows (ends allShort) = []
+abbrev ended : Ending → List Row → List Row
+ended (between s) rest = point (s .short .place) (Short (s .short .error)) ∷ point (s .past .place) (Past (s .past .error)) ∷ rest
+ended (exact p) rest = point p Exact ∷ rest
+ended unreadable rest = rest
+ended allShort rest = rest
 
--- What a search finds; and every point that it tries, in order, and then the two neighbours, or the exact point, with which it ends.
-abbrev Finds : Initial → Seconds → (h : Anomaly) → (psi points : ℕ) → Type 0
-Finds i tau h psi points = searchOf i tau h ≡ found psi points
+abbrev rows : Seconds → (used : ℕ) → History → List Row
+rows tau n (tries p h) = point (p .place) (p .trial .sort) ∷ rows tau (n + 1) h
+rows tau n (ends e) = ended e (finds (findingOf tau (nextOf n e)) ∷ [])
 
-abbrev Tries : Initial → Seconds → (h : Anomaly) → List Row → (psi points : ℕ) → Type 0
-Tries i tau h tried psi points = (rows (historyAt i tau (placeOf (h .0))) ≡ tried) × Finds i tau h psi points
+-- Every point that a search tries, in order, then the two neighbours, or the exact point, with which it ends, and what is found.
+abbrev Tries : Initial → Seconds → (h : Anomaly) → List Row → Type 0
+Tries i tau h tried = rows tau 0 (historyAt i tau (placeOf (h .0))) ≡ tried
 
 -- A closed orbit: μ = 398600.4418 km^3/s^2, position (-2500, -4000, 2000) km, velocity (-6.8, -4.4, 8.7) km/s, τ = 1800 s. After 20 outward points there are
 -- seven rounds, which take in turn the first, second, first, third and first proposal, none, and the first. The errors of the last two neighbours are as large: the
@@ -109,10 +110,10 @@ forward :
     ∷ short 0x3fc557f619cd935c 0xbd50000000000000
     ∷ short 0x3fc557f619cd935c 0xbd50000000000000
     ∷ past 0x3fc557f619cd935d 0x3d50000000000000
+    ∷ finds (found 0x3fc557f619cd935c 32)
     ∷ [])
-    0x3fc557f619cd935c 32
 unfolding ofBits toBits neg add sub mul div lt eq ne beyondOne reducedFrom nested c4Of c5Of atReduced doublings quotientsOf coefficientsOf sumsOf timeErrorOf radiusOf anomalyAt sortOf evaluatedAt trialAt onward outward halving rule.round inward history counted offeredAt byRadius byInterval byEnds proposed nearerEnd searchChoosing
-forward = (refl, refl)
+forward = refl
 
 -- Back in time: μ = 42828.37 km^3/s^2, position (3500, 900, -1200) km, velocity (0.4, -3.2, 1.9) km/s, τ = -3100 s. After 21 outward points there are six rounds,
 -- which take in turn the first, second, first, third, first and third proposal, and the last ends at an exact point.
@@ -152,21 +153,19 @@ backward :
     ∷ short 0x3fe30c9159b41835 0x3e346f0000000000
     ∷ exactly 0x3fe30c9159b431de
     ∷ exactly 0x3fe30c9159b431de
+    ∷ finds (found 0xbfe30c9159b431de 32)
     ∷ [])
-    0xbfe30c9159b431de 32
 unfolding ofBits toBits neg add sub mul div lt eq ne beyondOne reducedFrom nested c4Of c5Of atReduced doublings quotientsOf coefficientsOf sumsOf timeErrorOf radiusOf anomalyAt sortOf evaluatedAt trialAt onward outward halving rule.round inward history counted offeredAt byRadius byInterval byEnds proposed nearerEnd searchChoosing
-backward = (refl, refl)
+backward = refl
 
 -- T-01 at place 0. At rest without a pull R is r0·ψ−τ. Here H is zero; the places tried are 0, 2^52, and 1 by the first proposal. In units of 2^-1074, the least double
--- above zero: with r0 = 1.5 and τ = ±1, R is ∓1 at place 0 and, since 1.5 rounds to 2, ±1 at place 1: place 0, and ψ keeps the sign of τ. With r0 = 3 and τ = ±2,
--- R is ∓2 at place 0 and ±1 at place 1: place 1.
+-- above zero: with r0 = 1.5 and τ = −1, R is 1 at place 0 and, since 1.5 rounds to 2, −1 at place 1: place 0, and ψ keeps the sign of τ. With r0 = 3 and τ = 2, R is −2
+-- at place 0 and 1 at place 1: place 1.
 abbrev AtRest : (r0 tau psi : ℕ) → Type 0
-AtRest r0 tau psi = Finds (initial 0 r0 0 0) (seconds tau) (anomaly 0) psi 3
+AtRest r0 tau psi = searchOf (initial 0 r0 0 0) (seconds tau) (anomaly 0) ≡ found psi 3
 
 place-zero :
-    AtRest 0x3ff8000000000000 0x0000000000000001 0x0000000000000000
-    × AtRest 0x3ff8000000000000 0x8000000000000001 0x8000000000000000
+    AtRest 0x3ff8000000000000 0x8000000000000001 0x8000000000000000
     × AtRest 0x4008000000000000 0x0000000000000002 0x0000000000000001
-    × AtRest 0x4008000000000000 0x8000000000000002 0x8000000000000001
 unfolding ofBits toBits neg add sub mul div lt eq ne beyondOne reducedFrom nested c4Of c5Of atReduced doublings quotientsOf coefficientsOf sumsOf timeErrorOf radiusOf anomalyAt sortOf evaluatedAt trialAt onward outward halving rule.round inward history counted offeredAt byRadius byInterval byEnds proposed nearerEnd searchChoosing
-place-zero = (refl, refl, refl, refl)
+place-zero = (refl, refl)

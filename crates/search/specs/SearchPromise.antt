@@ -12,7 +12,7 @@ use Rattle.series.specs.declared.figures.Seconds.{Seconds}
 use Rattle.search_points.specs.declared.figures.Initial.{Initial}
 use Rattle.search_points.specs.Trial.{anomalyAt, trialAt}
 use Rattle.search_rule.specs.Rule.{Point, Proposal, pointsIn}
-use Rattle.search_rule.specs.Nearer.{Choosing}
+use Rattle.search_rule.specs.Nearer.{Choosing, shortEnd}
 use Rattle.search_rule.specs.RulePromise.{Findable, IsAnomaly, AllOutwardShort, SomeUnreadable, LastUnreadable}
 use Rattle.search_proposals.specs.Proposals.{threeProposals}
 use Rattle.search.specs.declared.figures.Finding.{Finding}
@@ -63,7 +63,8 @@ pub record Demand3 (pr : Proposal) (i : Initial) (tau : Seconds) (h : Anomaly) (
   pub at-most : points ≤ 167
   pub sharper : points ≤ 145
 
--- ---- "Point counts stay." Two searches that differ in their choice between the ends differ in ψ alone: the history does not know of it.
+-- ---- T-01: "Point counts stay." Whatever is chosen between the ends, the search differs in ψ alone from document 01's, which answered the short end. The count is the
+-- history's (`counts` above), and the history does not know of the choice.
 abbrev pub SameButAnomaly : Finding → Finding → Type 0
 SameButAnomaly (finding.Found psi n) (finding.Found psi' n') = n ≡ n'
 SameButAnomaly (finding.Found psi n) (finding.AllShort n') = ⊥
@@ -73,5 +74,5 @@ SameButAnomaly (finding.Unreadable n) a = a ≡ finding.Unreadable n
 
 abbrev pub PointsStay : Type 0
 PointsStay =
-    (one other : Choosing) (pr : Proposal) (i : Initial) (tau : Seconds) (h : Anomaly) →
-    SameButAnomaly (searchChoosing one pr i tau h) (searchChoosing other pr i tau h)
+    (choose : Choosing) (pr : Proposal) (i : Initial) (tau : Seconds) (h : Anomaly) →
+    SameButAnomaly (searchChoosing shortEnd pr i tau h) (searchChoosing choose pr i tau h)

@@ -1,34 +1,29 @@
--- What T-01's choice gives, so that nobody opens it: the past end exactly where its error is the smaller one; and no end with a smaller error than the answered one.
+-- What T-01's choice gives, so that nobody opens it; and that the choice is really one.
+use Prim.Native.Nat.{ℕ}
 use mathlib.Core.Path.{_≡_, refl}
 use mathlib.Core.Bool.{Bool, true, false}
-use Prim.Native.Nat.{ℕ}
 use lib.Ieee.{lt, ofBits, binary64}
 use Rattle.bits.specs.Choice.{pick}
 use Rattle.bits.specs.Arithmetic.{magnitude}
 use Rattle.bits.proofs.Order.{one-way, not-itself}
 use Rattle.search_rule.specs.declared.pair.End.{End}
 use Rattle.search_rule.specs.Rule.{endAt}
-use Rattle.search_rule.specs.Nearer.{pastIsNearer, nearerEnd}
+use Rattle.search_rule.specs.Nearer.{isSmaller, nearerEnd, ChosenSo}
 
-pub past-answered : (short past : End) → pastIsNearer short past ≡ true → nearerEnd short past ≡ past
+pub chosen-so : (short past : End) → ChosenSo short past (nearerEnd short past)
 unfolding nearerEnd
-past-answered short past e = rw e
-
-pub short-answered : (short past : End) → pastIsNearer short past ≡ false → nearerEnd short past ≡ short
-unfolding nearerEnd
-short-answered short past e = rw e
-
--- No smaller magnitude than an end's.
-abbrev NotBelow : (answer other : End) → Type 0
-NotBelow answer other = lt (magnitude (other .error)) (magnitude (answer .error)) ≡ false
-
-pub none-nearer : (short past : End) → NotBelow (nearerEnd short past) short × NotBelow (nearerEnd short past) past
-unfolding nearerEnd
-none-nearer short past = go (pastIsNearer short past) refl
+chosen-so short past =
+    record {
+      past-nearer = λ e. rw e;
+      short-else = λ e. rw e;
+      not-short = both (isSmaller (past .error) (short .error)) refl .0;
+      not-past = both (isSmaller (past .error) (short .error)) refl .1;
+    }
   where
-    go : (t : Bool) → pastIsNearer short past ≡ t → NotBelow (pick t past short) short × NotBelow (pick t past short) past
-    go true e = (one-way (magnitude (past .error)) (magnitude (short .error)) e, not-itself (magnitude (past .error)))
-    go false e = (not-itself (magnitude (short .error)), e)
+    both : (t : Bool) → isSmaller (past .error) (short .error) ≡ t →
+        (isSmaller (short .error) (pick t past short .error) ≡ false) × (isSmaller (past .error) (pick t past short .error) ≡ false)
+    both true e = (one-way (magnitude (past .error)) (magnitude (short .error)) e, not-itself (magnitude (past .error)))
+    both false e = (not-itself (magnitude (short .error)), e)
 
 -- ---- Computed here, with the words of ±1, ±2 and ±infinity for errors: the smaller one wins from either side, and the short end where there is none.
 abbrev short : ℕ → End

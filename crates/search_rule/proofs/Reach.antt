@@ -116,7 +116,7 @@ module _ (ev : Trials) (pr : Proposal) (first : ℕ) (error : Float) (sorts : So
       (narrow top (endingOf (outwardPart ev first error)) (outward-reached ev k 41 first (endAt 0 error) (sorts .zero-short) (omega arith) f))
       (λ tried s h w. inward-no-wider (Reached ev top) ev (moved-reached ev top) pr 63 0 tried s 0 h w)
 
--- Neighbours and exact points are anomalies; else a point up to that one is unreadable.
+-- Neighbours and an exact point are what is found; else a point up to that one is unreadable.
 pub found : (ev : Trials) (top : ℕ) (e : Ending) → NoWider (Reached ev top) 1 e → IsFound ev e ⊎ ((e ≡ unreadable) × (ReadableUpTo ev top → ⊥))
 found ev top (between s) x =
     let h = x .0 in

@@ -1,26 +1,30 @@
--- What the rule's theorems ask for can be had: a trial function that is short below place 8, past from there to 2 ^ 63, and unreadable from there on.
+-- What the rule's theorems ask for can be had: a trial function that is short by 2 below place 8, past by 1 from there to 2 ^ 63, and unreadable from there on.
 use Prim.Native.Nat.{ℕ, _+_, _*_, _^_, _<_, _≤_}
 use mathlib.Core.Path.{_≡_, refl, ap, subst, sym, _∙_}
 use mathlib.Core.Bool.{Bool, true, false}
 use native.Mathlib.Omega.{arith}
-use borrow.Author.Tests.{lt-ltb, le-ltb}
+use borrow.Author.Tests.{lt-ltb, le-ltb, ltb-true, ltb-false}
 use lib.Dec.{ltb}
 use Rattle.bits.specs.Choice.{pick}
-use Rattle.bits.specs.Arithmetic.{n0, n1}
+use lib.Ieee.{Float, lt, ofBits}
+use Rattle.bits.specs.Arithmetic.{n1, n2}
 use Rattle.search_points.specs.declared.figures.Sort.{Sort}
-use Rattle.search_points.specs.declared.figures.Sort.the-variants.{Short, Past, Unreadable}
+use Rattle.search_points.specs.declared.figures.Sort.the-variants.{Short, Past, Exact, Unreadable}
 use Rattle.search_points.specs.Trial.{unevaluated}
-use Rattle.search_rule.specs.Rule.{Trials, Proposal, history, endingOf}
-use Rattle.search_rule.specs.RulePromise.{Sorts, IsShort, outPoint, FirstNotShort, Findable, IsFound, IsAnswer, IsAnomaly}
-use Rattle.search_rule.proofs.Reach.{finds, answers}
+use Rattle.search_rule.specs.declared.pair.End.{End}
+use Rattle.search_rule.specs.Rule.{Trials, Proposal, Ending, between, exact, unreadable, allShort, history, endingOf}
+use Rattle.search_rule.specs.Nearer.{isSmaller}
+use Rattle.search_rule.specs.RulePromise.{Sorts, IsShort, outPoint, FirstNotShort, Findable, IsFound, IsAnswer}
+use Rattle.search_rule.proofs.Reach.{finds}
+use Rattle.search_rule.proofs.Nearest.{chosen-so}
 
 pub toySort : ℕ → Sort
-toySort p = pick (ltb p 8) (Short n1) (pick (ltb p (2 ^ 63)) (Past n1) Unreadable)
+toySort p = pick (ltb p 8) (Short n2) (pick (ltb p (2 ^ 63)) (Past n1) Unreadable)
 
 abbrev pub toy : Trials
 toy p = unevaluated (toySort p)
 
-short-at : (p : ℕ) → p < 8 → toySort p ≡ Short n1
+short-at : (p : ℕ) → p < 8 → toySort p ≡ Short n2
 unfolding toySort
 short-at p h = rw (lt-ltb p 8 h)
 
@@ -36,12 +40,12 @@ readable-at : (p : ℕ) → p < 2 ^ 63 → toySort p ≡ Unreadable → ⊥
 unfolding toySort
 readable-at p l = go (ltb p 8) (ltb p (2 ^ 63)) (lt-ltb p (2 ^ 63) l)
   where
-    go : (a b : Bool) → b ≡ true → pick a (Short n1) (pick b (Past n1) Unreadable) ≡ Unreadable → ⊥
+    go : (a b : Bool) → b ≡ true → pick a (Short n2) (pick b (Past n1) Unreadable) ≡ Unreadable → ⊥
     go true b e f = absurd (let z : _≡_ {A = ℕ} 0 1 = cc in omega arith)
     go false true e f = absurd (let z : _≡_ {A = ℕ} 0 1 = cc in omega arith)
     go false false e f = absurd (let z : _≡_ {A = ℕ} 0 1 = cc in omega arith)
 
-pub toy-sorts : Sorts toy n1
+pub toy-sorts : Sorts toy n2
 toy-sorts = record { zero-short = short-at 0 (omega arith); top-unreadable = top-at }
 
 -- From place 1 on, the second outward point is the first that isn't short.
@@ -59,9 +63,52 @@ toy-findable =
       readable = λ q l. readable-at q (omega arith);
     }
 
--- So an anomaly is found there, whatever proposes; and one is answered.
-pub toy-found : (pr : Proposal) → IsFound toy (endingOf (history toy pr 1 n1))
-toy-found pr = finds toy pr 1 n1 toy-sorts toy-findable
+-- So an anomaly is found there, whatever proposes.
+pub toy-found : (pr : Proposal) → IsFound toy (endingOf (history toy pr 1 n2))
+toy-found pr = finds toy pr 1 n2 toy-sorts toy-findable
 
-pub toy-answers : (pr : Proposal) → (p : ℕ) × IsAnswer (endingOf (history toy pr 1 n1)) p × IsAnomaly toy p
-toy-answers pr = answers toy pr 1 n1 toy-sorts toy-findable
+-- And the past end, place 8, is answered: its error is the smaller one.
+short-is : (p : ℕ) (r : Float) → toySort p ≡ Short r → (p < 8) × (r ≡ n2)
+unfolding toySort
+short-is p r e = go (ltb p 8) (ltb p (2 ^ 63)) refl e
+  where
+    go : (a b : Bool) → ltb p 8 ≡ a → pick a (Short n2) (pick b (Past n1) Unreadable) ≡ Short r → (p < 8) × (r ≡ n2)
+    go true b t f = (ltb-true p 8 t, cc)
+    go false true t f = absurd (let z : _≡_ {A = ℕ} 0 1 = cc in omega arith)
+    go false false t f = absurd (let z : _≡_ {A = ℕ} 0 1 = cc in omega arith)
+
+past-is : (p : ℕ) (r : Float) → toySort p ≡ Past r → (8 ≤ p) × (r ≡ n1)
+unfolding toySort
+past-is p r e = go (ltb p 8) (ltb p (2 ^ 63)) refl e
+  where
+    go : (a b : Bool) → ltb p 8 ≡ a → pick a (Short n2) (pick b (Past n1) Unreadable) ≡ Past r → (8 ≤ p) × (r ≡ n1)
+    go true b t f = absurd (let z : _≡_ {A = ℕ} 0 1 = cc in omega arith)
+    go false true t f = (ltb-false p 8 t, cc)
+    go false false t f = absurd (let z : _≡_ {A = ℕ} 0 1 = cc in omega arith)
+
+exact-not : (p : ℕ) → toySort p ≡ Exact → ⊥
+unfolding toySort
+exact-not p e = go (ltb p 8) (ltb p (2 ^ 63)) e
+  where
+    go : (a b : Bool) → pick a (Short n2) (pick b (Past n1) Unreadable) ≡ Exact → ⊥
+    go true b f = absurd (let z : _≡_ {A = ℕ} 0 1 = cc in omega arith)
+    go false true f = absurd (let z : _≡_ {A = ℕ} 0 1 = cc in omega arith)
+    go false false f = absurd (let z : _≡_ {A = ℕ} 0 1 = cc in omega arith)
+
+one-below-two : isSmaller n1 n2 ≡ true
+unfolding lt ofBits
+one-below-two = refl
+
+toy-answer : (e : Ending) → IsFound toy e → IsAnswer e 8
+toy-answer (between s) x =
+    let short = short-is (s .short .place) (s .short .error) (x .short-is) in
+    let past = past-is (s .past .place) (s .past .error) (x .past-is) in
+    let smaller : isSmaller (s .past .error) (s .short .error) ≡ true = rw (short .1, past .1) one-below-two in
+    let place : 8 ≡ s .past .place = omega (arith, short .0, past .0, x .adjacent) in
+    place ∙ ap (λ (e : End). e .place) (sym (chosen-so (s .short) (s .past) .past-nearer smaller))
+toy-answer (exact p) x = absurd (exact-not p x)
+toy-answer unreadable x = absurd x
+toy-answer allShort x = absurd x
+
+pub toy-answers : (pr : Proposal) → IsAnswer (endingOf (history toy pr 1 n2)) 8
+toy-answers pr = toy-answer (endingOf (history toy pr 1 n2)) (toy-found pr)

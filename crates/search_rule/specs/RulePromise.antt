@@ -79,7 +79,7 @@ IsFound ev allShort = ⊥
 abbrev pub Finds : Type 0
 Finds = (ev : Trials) (pr : Proposal) (first : ℕ) (error : Float) → Sorts ev error → Findable ev first → IsFound ev (endingOf (history ev pr first error))
 
--- The place that an ending answers.
+-- The place that an ending answers; a search's `findingOf` answers its anomaly.
 abbrev pub IsAnswer : Ending → (place : ℕ) → Type 0
 IsAnswer (between s) p = p ≡ nearerEnd (s .short) (s .past) .place
 IsAnswer (exact q) p = p ≡ q

@@ -1,4 +1,5 @@
-// Layer 3, its rule: the pair of places and what a tried point makes of it, over any trial points and any proposals (document 01, "The search").
+// Layer 3, its rule: the pair of places, what a tried point makes of it, and which end is answered, over any trial points and any proposals (document 01, "The
+// search"; document 02, T-01).
 pub mod pair;
 
 pub use pair::End;

@@ -1,4 +1,4 @@
-// The two ends between which the anomaly lies, and what a tried point makes of them. Nothing here evaluates a point.
+// The two ends between which the anomaly lies, what a tried point makes of them, and which of them is answered. Nothing here evaluates a point.
 ghost use mathlib.Core.Path.{_≡_};
 ghost use Rattle.search_rule.specs.Rule.{isWide, moved, outwardStep, nextOf, stepOf};
 ghost use Rattle.search_rule.specs.Nearer.{nearerEnd};

@@ -15,8 +15,9 @@ use Rattle.series.specs.declared.figures.Anomaly.{Anomaly}
 use Rattle.series.specs.declared.figures.Seconds.{Seconds}
 use Rattle.search_points.specs.Trial.{anomalyAt}
 use Rattle.search.specs.declared.figures.Finding.{Finding}
-use Rattle.search.specs.SearchPromise.{Demand3}
-use Rattle.search.proofs.Instance.{demand3-by}
+use Rattle.search.specs.declared.figures.Finding.the-variants as finding
+use Rattle.search.specs.SearchPromise.{usedIn, Demand3}
+use Rattle.search.proofs.Instance.{promise-by, demand3-by}
 use Rattle.states_arcs.specs.Results.{arcOf, resultsOf, endedOf}
 use Rattle.states_arcs.specs.declared.figures.Arc.{Arc}
 use Rattle.states_arcs.specs.declared.figures.Results.{Results}
@@ -31,7 +32,7 @@ use Rattle.states_start.specs.declared.figures.Begun.{Begun}
 use Rattle.states_start.specs.declared.figures.Start.{Start}
 use Rattle.states.specs.Call.{noResults, refused, answered, reachedFound, reachedFromBy, reachedBegunBy, reachedOrbitBy, reachedReadBy, reachedWordsBy, endedAnswer, answerFrom, propagateBy}
 use Rattle.states.specs.WithPartials.{withPartials, endedWith, lentEnded, partialsFrom, lentFrom, partialsBy, lentBy}
-use Rattle.states.specs.CallPromise.{ZerosOrAnswer, UnchangedOrAnswer, Searches, Reports, FindsAnomaly}
+use Rattle.states.specs.CallPromise.{ZerosOrAnswer, UnchangedOrAnswer, Searches, Reports, FindsAnomaly, CountsPoints}
 use Rattle.states.specs.declared.figures.Reached.{Reached}
 use Rattle.states.specs.declared.figures.Reached.the-variants as reached
 use Rattle.states.specs.declared.figures.Answer.{Answer}
@@ -167,4 +168,51 @@ finds-anomaly pr words s nonzero findable =
     let x : reachedWordsBy pr words ≡ reached.End arc (d .points) = reaches pr words s (d .found) in (
       reports d (rw x (settled (d .points) (endedOf arc) (resultsOf arc) (seven-or-eight arc))),
       λ run h. reports d (rw (eq-eqb (length run) 36 h, x) (settled-with arc (d .points) (endedOf arc) (resultsOf arc) run h (seven-or-eight arc))),
+    )
+
+-- ---- The points of both calls are those of the search, however they end.
+answered-points : (n : ℕ) (r : Results) → answered n r .points ≡ n
+unfolding answered
+answered-points n r = refl
+
+refused-points : (k n : ℕ) → refused k n .points ≡ n
+unfolding refused
+refused-points k n = refl
+
+ended-points : (n : ℕ) (e : Ended) → endedAnswer n e .points ≡ n
+unfolding endedAnswer
+ended-points n (ended.Results r) = answered-points n r
+ended-points n (ended.Refused k) = refused-points k n
+
+pick-points : (t : Bool) (k n : ℕ) (r : Results) → pick t (refused k n) (answered n r) .points ≡ n
+pick-points true k n r = refused-points k n
+pick-points false k n r = answered-points n r
+
+ended-with-points : (arc : Arc) (n : ℕ) (e : Ended) (run : List ℕ) → endedWith arc n e run .points ≡ n
+unfolding withPartials
+ended-with-points arc n (ended.Results r) run = pick-points (not (eqb (partialsRefusal arc run) 0)) (partialsRefusal arc run) n r
+ended-with-points arc n (ended.Refused k) run = refused-points k n
+
+found-points : (s : Start) (tau : Seconds) (x : Finding) → answerFrom (reachedFound s tau x) .points ≡ usedIn x
+unfolding reachedFound
+found-points s tau (finding.Found psi n) = ended-points n (endedOf (arcOf s tau psi))
+found-points s tau (finding.AllShort n) = refused-points 5 n
+found-points s tau (finding.Unreadable n) = refused-points 6 n
+
+found-with-points : (s : Start) (tau : Seconds) (x : Finding) (run : List ℕ) → partialsFrom (reachedFound s tau x) run .points ≡ usedIn x
+unfolding reachedFound
+found-with-points s tau (finding.Found psi n) run = ended-with-points (arcOf s tau psi) n (endedOf (arcOf s tau psi)) run
+found-with-points s tau (finding.AllShort n) run = refused-points 5 n
+found-with-points s tau (finding.Unreadable n) run = refused-points 6 n
+
+pub counts-points : CountsPoints
+unfolding propagateBy partialsBy
+counts-points pr words s nonzero =
+    let tau = s .tau in
+    let i = s .start .initial in
+    let x = searchBy (pr i tau) i tau (firstStepOf i tau) in
+    let e : reachedWordsBy pr words ≡ reachedFound (s .start) tau x = reaches pr words s refl in
+    let counted = promise-by (pr i tau) i tau (firstStepOf i tau) .interval nonzero .counts in (
+      ap (λ (r : Reached). answerFrom r .points) e ∙ found-points (s .start) tau x ∙ counted,
+      λ run h. rw (eq-eqb (length run) 36 h) (ap (λ (r : Reached). partialsFrom r run .points) e ∙ found-with-points (s .start) tau x run ∙ counted),
     )

@@ -51,7 +51,7 @@ abbrev pub firstPlace : Start → Seconds → ℕ
 firstPlace s tau = placeOf (firstStepOf (s .initial) tau .0)
 
 -- "At most 167 trial points are spent, and the reported number is how many the search used. The call answers with that anomaly or refuses by 7 or 8 alone."
--- The anomaly is `anomalyAt tau place`. It has, since T-01, "a zero error, or [is] one end of an adjacent short and past pair, chosen so": `IsAnomaly`. What that says by
+-- The anomaly is `anomalyAt tau place`. Since T-01 it reads: "a zero error, or one end of an adjacent short and past pair, chosen so". That is `IsAnomaly`; what it says by
 -- sorts is said by document 01's R in `sorts-mean` of crate `search_points`.
 pub record AnswersAt (pr : Proposing) (s : Start) (tau : Seconds) (a : Answer) : Type 0 where
   pub place : ℕ
@@ -78,3 +78,11 @@ FindsAnomaly =
     Findable (trialAt (s .start .initial) (s .tau)) (firstPlace (s .start) (s .tau)) →
     Reports pr (s .start) (s .tau) (propagateBy pr words)
     × ((run : List ℕ) → length run ≡ 36 → Reports pr (s .start) (s .tau) (partialsBy pr words run))
+
+-- T-01, "Point counts stay", of both calls, however they end: the points are those of the history, which does not know which end is answered.
+abbrev pub CountsPoints : Type 0
+CountsPoints =
+    (pr : Proposing) (words : List ℕ) (s : Searches words) → eq (s .tau .0) n0 ≡ false →
+    let i = s .start .initial in
+    let used = length (triedBy (pr i (s .tau)) i (s .tau) (firstPlace (s .start) (s .tau))) in
+    (propagateBy pr words .points ≡ used) × ((run : List ℕ) → length run ≡ 36 → partialsBy pr words run .points ≡ used)
