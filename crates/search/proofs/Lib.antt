@@ -1,5 +1,4 @@
--- What document 01's search promises, which layer 4 cites (Instance), its evaluated cases, that its premise can be met, and what its public function leaves open.
+-- What document 01's search promises, which layer 4 cites (Instance), that its premise can be met, and what its public function leaves open.
 pub mod Instance
-pub mod SearchCases
 pub mod Witness
 pub mod OneAnswers

@@ -1,0 +1,2 @@
+-- Searches, computed from the definitions of `search`.
+pub mod SearchCases
