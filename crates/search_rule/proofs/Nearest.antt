@@ -1,4 +1,4 @@
--- What T-01's choice gives, so that nobody opens it; and that the choice is really one.
+-- What T-01's choice gives, so that nobody opens it; and some choices, computed.
 use Prim.Native.Nat.{ℕ}
 use mathlib.Core.Path.{_≡_, refl}
 use mathlib.Core.Bool.{Bool, true, false}
@@ -25,33 +25,22 @@ chosen-so short past =
     both true e = (one-way (magnitude (past .error)) (magnitude (short .error)) e, not-itself (magnitude (past .error)))
     both false e = (not-itself (magnitude (short .error)), e)
 
--- ---- Computed here, with the words of ±1, ±2 and ±infinity for errors: the smaller one wins from either side, and the short end where there is none.
-abbrev short : ℕ → End
-short error = endAt 7 (ofBits binary64 error)
+-- ---- Computed here, by the words of ±1, ±2 and ±infinity for errors: the smaller one wins from either side, and the short end where there is none.
+abbrev chosen : (short past : ℕ) → End
+chosen short past = nearerEnd (endAt 7 (ofBits binary64 short)) (endAt 8 (ofBits binary64 past))
 
-abbrev past : ℕ → End
-past error = endAt 8 (ofBits binary64 error)
+abbrev ShortWins : (short past : ℕ) → Type 0
+ShortWins short past = chosen short past ≡ endAt 7 (ofBits binary64 short)
 
-past-smaller : nearerEnd (short 0xc000000000000000) (past 0x3ff0000000000000) ≡ past 0x3ff0000000000000
+abbrev PastWins : (short past : ℕ) → Type 0
+PastWins short past = chosen short past ≡ endAt 8 (ofBits binary64 past)
+
+computed :
+    PastWins 0xc000000000000000 0x3ff0000000000000
+    × ShortWins 0x3ff0000000000000 0xc000000000000000
+    × ShortWins 0x3ff0000000000000 0xbff0000000000000
+    × ShortWins 0xfff0000000000000 0x7ff0000000000000
+    × PastWins 0xfff0000000000000 0x4000000000000000
+    × ShortWins 0xc000000000000000 0x7ff0000000000000
 unfolding nearerEnd lt ofBits
-past-smaller = refl
-
-short-smaller : nearerEnd (short 0x3ff0000000000000) (past 0xc000000000000000) ≡ short 0x3ff0000000000000
-unfolding nearerEnd lt ofBits
-short-smaller = refl
-
-tie : nearerEnd (short 0x3ff0000000000000) (past 0xbff0000000000000) ≡ short 0x3ff0000000000000
-unfolding nearerEnd lt ofBits
-tie = refl
-
-both-infinite : nearerEnd (short 0xfff0000000000000) (past 0x7ff0000000000000) ≡ short 0xfff0000000000000
-unfolding nearerEnd lt ofBits
-both-infinite = refl
-
-short-infinite : nearerEnd (short 0xfff0000000000000) (past 0x4000000000000000) ≡ past 0x4000000000000000
-unfolding nearerEnd lt ofBits
-short-infinite = refl
-
-past-infinite : nearerEnd (short 0xc000000000000000) (past 0x7ff0000000000000) ≡ short 0xc000000000000000
-unfolding nearerEnd lt ofBits
-past-infinite = refl
+computed = (refl, refl, refl, refl, refl, refl)

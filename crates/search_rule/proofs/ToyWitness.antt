@@ -36,14 +36,21 @@ top-at : (p : ℕ) → 2 ^ 63 ≤ p → toySort p ≡ Unreadable
 unfolding toySort
 top-at p h = let e : 8 ≤ p = omega arith in rw (le-ltb p 8 e, le-ltb p (2 ^ 63) h)
 
-readable-at : (p : ℕ) → p < 2 ^ 63 → toySort p ≡ Unreadable → ⊥
+-- And what a sort says of its place.
+abbrev Says : (p : ℕ) → Sort → Type 0
+Says p (Short r) = (p < 8) × (r ≡ n2)
+Says p (Past r) = (8 ≤ p) × (r ≡ n1)
+Says p Exact = ⊥
+Says p Unreadable = 2 ^ 63 ≤ p
+
+says : (p : ℕ) {v : Sort} → toySort p ≡ v → Says p v
 unfolding toySort
-readable-at p l = go (ltb p 8) (ltb p (2 ^ 63)) (lt-ltb p (2 ^ 63) l)
+says p e = subst (Says p) e (go (ltb p 8) (ltb p (2 ^ 63)) refl refl)
   where
-    go : (a b : Bool) → b ≡ true → pick a (Short n2) (pick b (Past n1) Unreadable) ≡ Unreadable → ⊥
-    go true b e f = absurd (let z : _≡_ {A = ℕ} 0 1 = cc in omega arith)
-    go false true e f = absurd (let z : _≡_ {A = ℕ} 0 1 = cc in omega arith)
-    go false false e f = absurd (let z : _≡_ {A = ℕ} 0 1 = cc in omega arith)
+    go : (a b : Bool) → ltb p 8 ≡ a → ltb p (2 ^ 63) ≡ b → Says p (pick a (Short n2) (pick b (Past n1) Unreadable))
+    go true b f g = (ltb-true p 8 f, refl)
+    go false true f g = (ltb-false p 8 f, refl)
+    go false false f g = ltb-false p (2 ^ 63) g
 
 pub toy-sorts : Sorts toy n2
 toy-sorts = record { zero-short = short-at 0 (omega arith); top-unreadable = top-at }
@@ -60,7 +67,7 @@ toy-findable =
     record {
       k = 1;
       first-not-short = record { among = omega arith; shorts = one-short; not-short = second-past };
-      readable = λ q l. readable-at q (omega arith);
+      readable = λ q l e. let u = says q e in omega arith;
     }
 
 -- So an anomaly is found there, whatever proposes.
@@ -68,45 +75,18 @@ pub toy-found : (pr : Proposal) → IsFound toy (endingOf (history toy pr 1 n2))
 toy-found pr = finds toy pr 1 n2 toy-sorts toy-findable
 
 -- And the past end, place 8, is answered: its error is the smaller one.
-short-is : (p : ℕ) (r : Float) → toySort p ≡ Short r → (p < 8) × (r ≡ n2)
-unfolding toySort
-short-is p r e = go (ltb p 8) (ltb p (2 ^ 63)) refl e
-  where
-    go : (a b : Bool) → ltb p 8 ≡ a → pick a (Short n2) (pick b (Past n1) Unreadable) ≡ Short r → (p < 8) × (r ≡ n2)
-    go true b t f = (ltb-true p 8 t, cc)
-    go false true t f = absurd (let z : _≡_ {A = ℕ} 0 1 = cc in omega arith)
-    go false false t f = absurd (let z : _≡_ {A = ℕ} 0 1 = cc in omega arith)
-
-past-is : (p : ℕ) (r : Float) → toySort p ≡ Past r → (8 ≤ p) × (r ≡ n1)
-unfolding toySort
-past-is p r e = go (ltb p 8) (ltb p (2 ^ 63)) refl e
-  where
-    go : (a b : Bool) → ltb p 8 ≡ a → pick a (Short n2) (pick b (Past n1) Unreadable) ≡ Past r → (8 ≤ p) × (r ≡ n1)
-    go true b t f = absurd (let z : _≡_ {A = ℕ} 0 1 = cc in omega arith)
-    go false true t f = (ltb-false p 8 t, cc)
-    go false false t f = absurd (let z : _≡_ {A = ℕ} 0 1 = cc in omega arith)
-
-exact-not : (p : ℕ) → toySort p ≡ Exact → ⊥
-unfolding toySort
-exact-not p e = go (ltb p 8) (ltb p (2 ^ 63)) e
-  where
-    go : (a b : Bool) → pick a (Short n2) (pick b (Past n1) Unreadable) ≡ Exact → ⊥
-    go true b f = absurd (let z : _≡_ {A = ℕ} 0 1 = cc in omega arith)
-    go false true f = absurd (let z : _≡_ {A = ℕ} 0 1 = cc in omega arith)
-    go false false f = absurd (let z : _≡_ {A = ℕ} 0 1 = cc in omega arith)
-
 one-below-two : isSmaller n1 n2 ≡ true
 unfolding lt ofBits
 one-below-two = refl
 
 toy-answer : (e : Ending) → IsFound toy e → IsAnswer e 8
 toy-answer (between s) x =
-    let short = short-is (s .short .place) (s .short .error) (x .short-is) in
-    let past = past-is (s .past .place) (s .past .error) (x .past-is) in
+    let short = says (s .short .place) (x .short-is) in
+    let past = says (s .past .place) (x .past-is) in
     let smaller : isSmaller (s .past .error) (s .short .error) ≡ true = rw (short .1, past .1) one-below-two in
     let place : 8 ≡ s .past .place = omega (arith, short .0, past .0, x .adjacent) in
     place ∙ ap (λ (e : End). e .place) (sym (chosen-so (s .short) (s .past) .past-nearer smaller))
-toy-answer (exact p) x = absurd (exact-not p x)
+toy-answer (exact p) x = absurd (says p x)
 toy-answer unreadable x = absurd x
 toy-answer allShort x = absurd x
 

@@ -171,39 +171,26 @@ finds-anomaly pr words s nonzero findable =
     )
 
 -- ---- The points of both calls are those of the search, however they end.
-answered-points : (n : ℕ) (r : Results) → answered n r .points ≡ n
-unfolding answered
-answered-points n r = refl
-
 refused-points : (k n : ℕ) → refused k n .points ≡ n
 unfolding refused
 refused-points k n = refl
 
-ended-points : (n : ℕ) (e : Ended) → endedAnswer n e .points ≡ n
-unfolding endedAnswer
-ended-points n (ended.Results r) = answered-points n r
-ended-points n (ended.Refused k) = refused-points k n
+module _ (s : Start) (tau : Seconds) where
+  found-points : (x : Finding) → answerFrom (reachedFound s tau x) .points ≡ usedIn x
+  unfolding reachedFound
+  found-points (finding.Found psi n) =
+      let arc = arcOf s tau psi in
+      settled-points (endedAnswer n (endedOf arc)) n (resultsOf arc) (settled n (endedOf arc) (resultsOf arc) (seven-or-eight arc))
+  found-points (finding.AllShort n) = refused-points 5 n
+  found-points (finding.Unreadable n) = refused-points 6 n
 
-pick-points : (t : Bool) (k n : ℕ) (r : Results) → pick t (refused k n) (answered n r) .points ≡ n
-pick-points true k n r = refused-points k n
-pick-points false k n r = answered-points n r
-
-ended-with-points : (arc : Arc) (n : ℕ) (e : Ended) (run : List ℕ) → endedWith arc n e run .points ≡ n
-unfolding withPartials
-ended-with-points arc n (ended.Results r) run = pick-points (not (eqb (partialsRefusal arc run) 0)) (partialsRefusal arc run) n r
-ended-with-points arc n (ended.Refused k) run = refused-points k n
-
-found-points : (s : Start) (tau : Seconds) (x : Finding) → answerFrom (reachedFound s tau x) .points ≡ usedIn x
-unfolding reachedFound
-found-points s tau (finding.Found psi n) = ended-points n (endedOf (arcOf s tau psi))
-found-points s tau (finding.AllShort n) = refused-points 5 n
-found-points s tau (finding.Unreadable n) = refused-points 6 n
-
-found-with-points : (s : Start) (tau : Seconds) (x : Finding) (run : List ℕ) → partialsFrom (reachedFound s tau x) run .points ≡ usedIn x
-unfolding reachedFound
-found-with-points s tau (finding.Found psi n) run = ended-with-points (arcOf s tau psi) n (endedOf (arcOf s tau psi)) run
-found-with-points s tau (finding.AllShort n) run = refused-points 5 n
-found-with-points s tau (finding.Unreadable n) run = refused-points 6 n
+  found-with-points : (x : Finding) (run : List ℕ) → length run ≡ 36 → partialsFrom (reachedFound s tau x) run .points ≡ usedIn x
+  unfolding reachedFound
+  found-with-points (finding.Found psi n) run h =
+      let arc = arcOf s tau psi in
+      settled-points (endedWith arc n (endedOf arc) run) n (resultsOf arc) (settled-with arc n (endedOf arc) (resultsOf arc) run h (seven-or-eight arc))
+  found-with-points (finding.AllShort n) run h = refused-points 5 n
+  found-with-points (finding.Unreadable n) run h = refused-points 6 n
 
 pub counts-points : CountsPoints
 unfolding propagateBy partialsBy
@@ -214,5 +201,5 @@ counts-points pr words s nonzero =
     let e : reachedWordsBy pr words ≡ reachedFound (s .start) tau x = reaches pr words s refl in
     let counted = promise-by (pr i tau) i tau (firstStepOf i tau) .interval nonzero .counts in (
       ap (λ (r : Reached). answerFrom r .points) e ∙ found-points (s .start) tau x ∙ counted,
-      λ run h. rw (eq-eqb (length run) 36 h) (ap (λ (r : Reached). partialsFrom r run .points) e ∙ found-with-points (s .start) tau x run ∙ counted),
+      λ run h. rw (eq-eqb (length run) 36 h) (ap (λ (r : Reached). partialsFrom r run .points) e ∙ found-with-points (s .start) tau x run h ∙ counted),
     )
