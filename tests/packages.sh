@@ -21,5 +21,4 @@ get() {
 echo "$who: installing $*"
 export DEBIAN_FRONTEND=noninteractive
 # a fresh machine has no lists of packages, or old ones
-{ get "$@" || { apt-get update -qq && get "$@"; }; } >>"$log" 2>&1 ||
-    echo "$who: $what, and installing $* failed: $log has why" >&2
+{ get "$@" || { apt-get update -qq && get "$@"; }; } >>"$log" 2>&1 || true
