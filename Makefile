@@ -15,8 +15,8 @@ X86 = sh tests/machine.sh
 STRICT = -std=c99 -Wall -Wextra -pedantic -Werror -O2 -ffp-contract=off
 TESTS = $(COMPARISONS) build/tests/second/selftest $(GUIDED) build/tests/root build/tests/cases build/tests/case_files
 
-# The library against the second program: states and partials, then files.
-COMPARISONS = build/tests/propagate build/tests/files
+# The library against the second program: states and partials, then files, then the summary.
+COMPARISONS = build/tests/propagate build/tests/files build/tests/summary
 
 # The same on inputs that find their own way, by those before them.
 GUIDED = build/tests/guided
@@ -30,8 +30,8 @@ FIRST = 0
 INPUT =
 
 # The table's rows.
-BENCH = root propagate partials results
-BESIDE = bench/plain.c bench/plain_root.c bench/plain_search.c bench/plain_results.c bench/newton.c bench/orbits.c bench/empty.c bench/row.c
+BENCH = root propagate partials results summary append withdraw
+BESIDE = bench/plain.c bench/plain_root.c bench/plain_search.c bench/plain_results.c bench/plain_summary.c bench/newton.c bench/orbits.c bench/roster.c bench/empty.c bench/row.c
 
 # rt proves so many crates, or tries so many wrong programs, at a time; with fewer processors than that, none waits for the longest of a pair.
 export RT_JOBS = 4
@@ -108,7 +108,7 @@ install-files uninstall: export INTO = $(DESTDIR)$(PREFIX)
 PROGRAMS = propagate kelubashi
 INTERFACE = kelubashi.h kelubashi_selfcheck.h
 PAGES = $(notdir $(wildcard man/*))
-LINKED = $(patsubst %,kelubashi1_%.3,root propagate partials read write results) \
+LINKED = $(patsubst %,kelubashi1_%.3,root propagate partials read write results summary append withdraw) \
 	$(patsubst %,kelubashi_%.3,propagate partials refusal_text refusal_advice)
 FOLDERS = bin include lib/pkgconfig share/kelubashi share/man/man1 share/man/man3 share/man/man5
 
@@ -189,9 +189,9 @@ sanitized: build/tests/second_results
 commanded: machine command build/tests/kelubashi_faulty build/tests/second_results
 	@sh tests/command.sh 'over the library' 'sh tests/machine.sh run build/kelubashi' 'sh tests/machine.sh run build/tests/kelubashi_faulty'
 
-SECOND = $(patsubst %,build/tests/second/%.o,root series search states files)
+SECOND = $(patsubst %,build/tests/second/%.o,root series search states files summary)
 TRACED = $(SECOND:build/tests/second/%=build/tests/traced/%)
-SELFTEST = $(patsubst %,build/tests/second/selftest%.o,_root _calls _search _orbits _files)
+SELFTEST = $(patsubst %,build/tests/second/selftest%.o,_root _calls _search _orbits _files _summary _changes _refused)
 HEADERS = $(wildcard include/*.h command/*.h command/parts/*.h tests/*.h tests/second/*.h)
 
 # The command: plain C99 and POSIX, with no warning of conversions either.
@@ -202,8 +202,8 @@ build/host/%: STRICT += -Wconversion
 build/kelubashi: $(COMMAND) machine lib
 	@$(X86) compile $(STRICT) -o $@ $(COMMAND) build/libkelubashi.a
 
-# The same, with faults of the machine before the system's calls.
-WRAPPED = $(patsubst %,-Wl$(comma)--wrap=%,rename fsync close fchmod write read)
+# The same, with faults of the machine before the system's calls, and before one of the library's.
+WRAPPED = $(patsubst %,-Wl$(comma)--wrap=%,rename fsync close fchmod write read kelubashi1_summary)
 comma = ,
 build/tests/kelubashi_faulty: $(COMMAND) build/tests/command_faults.o machine lib
 	@$(X86) compile $(STRICT) $(WRAPPED) -o $@ $(COMMAND) build/tests/command_faults.o build/libkelubashi.a
@@ -214,8 +214,10 @@ build/tests/facts: STRICT += -pthread
 ASK_STATES = $(patsubst %,build/tests/%.o,drive orbits aimed aimed_search inputs ask_state)
 ASK_FILES = $(patsubst %,build/tests/%.o,drive orbits sections damaged lent ask_file)
 build/tests/propagate: $(ASK_STATES) build/tests/aims.o $(SECOND)
+ASK_ROSTERS = $(patsubst %,build/tests/%.o,drive orbits records rosters roster_calls held entries rules_summary aims_summary ask_summary)
 build/tests/files: $(ASK_FILES) $(SECOND)
-$(GUIDED): $(ASK_STATES) $(ASK_FILES) $(patsubst %,build/tests/%.o,edges corpus packed changes changes_file) $(TRACED)
+build/tests/summary: $(ASK_ROSTERS) $(SECOND)
+$(GUIDED): $(ASK_STATES) $(ASK_FILES) $(ASK_ROSTERS) $(patsubst %,build/tests/%.o,edges corpus packed changes changes_file changes_roster) $(TRACED)
 
 build/%: %.c $(HEADERS) machine lib
 	@mkdir -p $(@D)

@@ -31,3 +31,24 @@ uint64_t empty_results(const uint8_t *file, size_t length, uint8_t *room, size_t
     (void)file, (void)length, (void)room, (void)size, (void)answer, (void)n;
     return 0;
 }
+
+uint64_t empty_summary(const uint64_t *states, size_t words, uint64_t count, uint64_t centres, uint64_t *list, size_t k,
+                       uint64_t *answer, size_t n)
+{
+    (void)states, (void)words, (void)count, (void)centres, (void)list, (void)k, (void)answer, (void)n;
+    return 0;
+}
+
+uint64_t empty_append(const uint64_t *record, size_t r, uint64_t *states, size_t words, uint64_t count, uint64_t centres,
+                      uint64_t *list, size_t k, uint64_t *answer, size_t n)
+{
+    (void)record, (void)r, (void)states, (void)words, (void)count, (void)centres, (void)list, (void)k, (void)answer, (void)n;
+    return 0;
+}
+
+uint64_t empty_withdraw(uint64_t which, uint64_t *states, size_t words, uint64_t count, uint64_t centres, uint64_t *list,
+                        size_t k, uint64_t *answer, size_t n)
+{
+    (void)which, (void)states, (void)words, (void)count, (void)centres, (void)list, (void)k, (void)answer, (void)n;
+    return 0;
+}

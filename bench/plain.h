@@ -1,5 +1,5 @@
 /*
-**  plain.h: the library's calls again, in plain C of the same rules (document 01), for measuring beside it.
+**  plain.h: the library's calls again, in plain C of the same rules (documents 01 and 02), for measuring beside it.
 **
 **  Arguments, answers and refusals are those of kelubashi.h, word for word; only the names differ.
 */
@@ -20,6 +20,19 @@ uint64_t plain_partials(uint64_t mu, uint64_t x, uint64_t y, uint64_t z,
                         uint64_t *answer, size_t n, uint64_t *run, size_t k);
 
 uint64_t plain_results(const uint8_t *file, size_t length, uint8_t *room, size_t size, uint64_t *answer, size_t n);
+
+uint64_t plain_summary(const uint64_t *states, size_t words, uint64_t count, uint64_t centres, uint64_t *list, size_t k,
+                       uint64_t *answer, size_t n);
+
+uint64_t plain_append(const uint64_t *record, size_t r, uint64_t *states, size_t words, uint64_t count, uint64_t centres,
+                      uint64_t *list, size_t k, uint64_t *answer, size_t n);
+
+uint64_t plain_withdraw(uint64_t which, uint64_t *states, size_t words, uint64_t count, uint64_t centres, uint64_t *list,
+                        size_t k, uint64_t *answer, size_t n);
+
+/* The same list, all entries in one walk over the states. */
+uint64_t one_walk_summary(const uint64_t *states, size_t words, uint64_t count, uint64_t centres, uint64_t *list, size_t k,
+                          uint64_t *answer, size_t n);
 
 /* The same root by the processor's own instruction: what a host could use where its processor is to be trusted. */
 uint64_t processor_root(uint64_t word, uint64_t *answer, size_t n);

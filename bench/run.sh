@@ -1,5 +1,5 @@
 #!/bin/sh
-# Prints the table of the rows given (root, propagate, partials, results), whose programs are in build/bench/, and how two of them grow.
+# Prints the table of the rows given (root, propagate, partials, results, summary, append, withdraw), whose programs are in build/bench/, and how two of them grow.
 #
 # Instructions are counted under the emulator on every machine, so that all count alike. Time is measured
 # on x86-64 alone: under an emulator it says nothing of a station's machine.
@@ -104,6 +104,7 @@ beside() {
     case $2 in
     root) echo "by the processor: $(per_call "$1" root processor)" ;;
     propagate) echo "by Newton, no promise: $(per_call "$1" propagate newton)" ;;
+    summary) echo "all entries in one walk: $(per_call "$1" summary one_walk)" ;;
     esac
 }
 

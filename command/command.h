@@ -37,6 +37,7 @@ extern const struct subcommand results_subcommand;
 extern const struct subcommand show_subcommand;
 extern const struct subcommand elements_subcommand;
 extern const struct subcommand read_subcommand;
+extern const struct subcommand centres_subcommand;
 extern const struct subcommand state_subcommand;
 extern const struct subcommand selfcheck_subcommand;
 

@@ -17,8 +17,8 @@
 #include <unistd.h>
 
 static const struct subcommand *const SUBCOMMANDS[] = {
-    &results_subcommand, &show_subcommand, &elements_subcommand, &read_subcommand, &state_subcommand,
-    &selfcheck_subcommand
+    &results_subcommand, &show_subcommand, &elements_subcommand, &read_subcommand, &centres_subcommand,
+    &state_subcommand, &selfcheck_subcommand
 };
 
 enum { SUBCOMMAND_COUNT = sizeof SUBCOMMANDS / sizeof SUBCOMMANDS[0] };

@@ -9,13 +9,6 @@
 #include <inttypes.h>
 #include <stdio.h>
 
-static void show_counts(const struct element_file *elements)
-{
-    printf("%s: element file of edition 1, %lu bytes: centres %lu, states %lu, requests %lu\n", elements->name,
-           (unsigned long)elements->length, (unsigned long)centre_count(elements), (unsigned long)state_count(elements),
-           (unsigned long)request_count(elements));
-}
-
 static void show_centres(const struct element_file *elements)
 {
     size_t k;

@@ -383,6 +383,118 @@ static const char *files(void)
     return results("the results of P10's file, a byte short", FILE_BYTES - 1, REFUSED, REFUSED_WORDS);
 }
 
+/* ---- a list kept beside the states of two centres: appended, refused, withdrawn, and worked out anew ---- */
+
+enum { CENTRES = 2, LISTED = CENTRES * KELUBASHI_ENTRY, LOOKED_AT = 4 };    /* records that are looked at */
+
+#define NAN_WORD W(7FF8000000000000)
+#define MINUS_INFINITY W(FFF0000000000000)
+
+enum { AT_ZERO, AT_NAN, AT_MINUS_INFINITY, NO_CENTRE };
+
+static const uint64_t RECORDS[][KELUBASHI_STATE] = {
+    { 0, MINUS_ZERO, 11, 12, 13, 14, 15, 16 },
+    { 1, NAN_WORD, 21, 22, 23, 24, 25, 26 },
+    { 0, MINUS_INFINITY, 31, 32, 33, 34, 35, 36 },
+    { CENTRES, 0, 41, 42, 43, 44, 45, 46 }
+};
+
+static uint64_t states[KELUBASHI_STATES], list[LISTED];
+
+enum asked { APPEND, WITHDRAW, SUMMARY };
+
+static const struct change {
+    const char *name;
+    enum asked asked;
+    uint64_t which;                                 /* of RECORDS, or of the states in use */
+    uint64_t words, right[KELUBASHI_CHANGE_ANSWER]; /* of the run; the first of the answer is the status too */
+    uint64_t entries[LISTED];
+    int records[LOOKED_AT];                         /* of RECORDS, or -1 where the words are those lent */
+} CHANGES[] = {
+    { "a state at -0 s appended", APPEND, AT_ZERO, 4000, { 0, 1 }, { 1, 0, 0, 0, LENT, LENT, LENT, LENT }, { AT_ZERO, -1, -1, -1 } },
+    { "a state at a NaN appended", APPEND, AT_NAN, 4000, { 0, 2 }, { 1, 0, 0, 0, 0, 1, 0, 0 }, { AT_ZERO, AT_NAN, -1, -1 } },
+    { "an infinite epoch appended", APPEND, AT_MINUS_INFINITY, 4000, { 0, 3 },
+      { 2, 0, MINUS_INFINITY, 0, 0, 1, 0, 0 }, { AT_ZERO, AT_NAN, AT_MINUS_INFINITY, -1 } },
+    { "a state of no centre", APPEND, NO_CENTRE, 4000, { 24, 3 },
+      { 2, 0, MINUS_INFINITY, 0, 0, 1, 0, 0 }, { AT_ZERO, AT_NAN, AT_MINUS_INFINITY, -1 } },
+    { "the first state withdrawn", WITHDRAW, 0, 4000, { 0, 2 },
+      { 1, 0, MINUS_INFINITY, MINUS_INFINITY, 0, 1, 0, 0 }, { AT_NAN, AT_MINUS_INFINITY, AT_MINUS_INFINITY, -1 } },
+    { "a state that is not there withdrawn", WITHDRAW, 2, 4000, { 42, 2 },
+      { 1, 0, MINUS_INFINITY, MINUS_INFINITY, 0, 1, 0, 0 }, { AT_NAN, AT_MINUS_INFINITY, AT_MINUS_INFINITY, -1 } },
+    { "a summary of a run a word short", SUMMARY, 0, 3999, { 27, 2 },
+      { LENT, LENT, LENT, LENT, LENT, LENT, LENT, LENT }, { AT_NAN, AT_MINUS_INFINITY, AT_MINUS_INFINITY, -1 } },
+    { "a summary", SUMMARY, 0, 4000, { 0, 2 },
+      { 1, 0, MINUS_INFINITY, MINUS_INFINITY, 0, 1, 0, 0 }, { AT_NAN, AT_MINUS_INFINITY, AT_MINUS_INFINITY, -1 } }
+};
+
+static const char *const CHANGE_NAMES[KELUBASHI_CHANGE_ANSWER] = { "the refusal", "the count of states" };
+
+static const char *const LIST_NAMES[LISTED] = {
+    "the states of centre 0", "its NaN epochs", "its earliest epoch", "its latest epoch",
+    "the states of centre 1", "its NaN epochs", "its earliest epoch", "its latest epoch"
+};
+
+/* The call, with so many states in use. */
+static uint64_t ask(const struct change *at, uint64_t count, uint64_t *answer)
+{
+    switch (at->asked) {
+    case APPEND:
+        return kelubashi1_append(RECORDS[at->which], KELUBASHI_STATE, states, (size_t)at->words, count, CENTRES,
+                                 list, LISTED, answer, KELUBASHI_CHANGE_ANSWER);
+    case WITHDRAW:
+        return kelubashi1_withdraw(at->which, states, (size_t)at->words, count, CENTRES, list, LISTED, answer,
+                                   KELUBASHI_CHANGE_ANSWER);
+    default:
+        lend(list, LISTED);
+        return kelubashi1_summary(states, (size_t)at->words, count, CENTRES, list, LISTED, answer,
+                                  KELUBASHI_CHANGE_ANSWER);
+    }
+}
+
+static const char *records_astray(const struct change *at)
+{
+    int i;
+
+    for (i = 0; i < LOOKED_AT * KELUBASHI_STATE; i++) {
+        int record = at->records[i / KELUBASHI_STATE];
+        uint64_t here = record < 0 ? LENT : RECORDS[record][i % KELUBASHI_STATE];
+        if (states[i] != here)
+            return astray_word(at->name, "a word of the states", states[i], here);
+    }
+    return NULL;
+}
+
+static const char *change(const struct change *at, uint64_t count)
+{
+    uint64_t answer[KELUBASHI_CHANGE_ANSWER], status;
+    const char *wrong;
+
+    lend(answer, KELUBASHI_CHANGE_ANSWER);
+    status = ask(at, count, answer);
+    if (status != at->right[0])
+        return astray_number(at->name, "the status", status, at->right[0]);
+    wrong = astray(at->name, CHANGE_NAMES, answer, at->right, KELUBASHI_CHANGE_ANSWER, KELUBASHI_CHANGE_ANSWER);
+    if (wrong == NULL)
+        wrong = astray(at->name, LIST_NAMES, list, at->entries, LISTED, 0);
+    return wrong != NULL ? wrong : records_astray(at);
+}
+
+/* All changes, one after another, of states and a list that are lent once. */
+static const char *changes(void)
+{
+    const char *wrong = NULL;
+    uint64_t count = 0;
+    size_t i;
+
+    lend(states, KELUBASHI_STATES);
+    lend(list, LISTED);
+    for (i = 0; wrong == NULL && i < sizeof CHANGES / sizeof CHANGES[0]; i++) {
+        wrong = change(&CHANGES[i], count);
+        count = CHANGES[i].right[KELUBASHI_CHANGE_COUNT];
+    }
+    return wrong;
+}
+
 const char *kelubashi_selfcheck(void)
 {
     const char *wrong = rounding();
@@ -398,5 +510,7 @@ const char *kelubashi_selfcheck(void)
         wrong = partials(KELUBASHI_PARTIALS, 0);
     if (wrong == NULL)
         wrong = partials(KELUBASHI_PARTIALS - 1, 1);
-    return wrong != NULL ? wrong : files();
+    if (wrong == NULL)
+        wrong = files();
+    return wrong != NULL ? wrong : changes();
 }

@@ -16,8 +16,8 @@
 **
 **  No call keeps anything between calls: they are reentrant, and safe in several threads at once. They
 **  need SSE2 and nothing newer of the processor, memset and nothing else of libc, and of the stack at
-**  most 100 bytes (root), 200 (read), 300 (write), 1,100 (propagate), 1,300 (results) or 2,000
-**  (partials). They may raise floating-point flags, as fetestexcept shows them, and lower none.
+**  most 100 bytes (root), 200 (read, summary, append, withdraw), 300 (write), 1,100 (propagate), 1,300
+**  (results) or 2,000 (partials). They may raise floating-point flags, as fetestexcept shows them, and lower none.
 **
 **  The figures are those of a processor that rounds to nearest and keeps subnormal numbers, as
 **  programs find it when they start. Do not link with -ffast-math, which changes that.
@@ -297,6 +297,93 @@ uint64_t kelubashi1_results(const uint8_t *file, size_t length, uint8_t *room, s
                             uint64_t *answer, size_t n);
 
 /*
+**  A list of entries beside the states, one entry for each centre: how many states it has and their
+**  earliest and latest epoch, without reading all states again.
+**
+**  The states stand in a run of 500 records, as in an element file, the first of which are in use; how
+**  many is a count that the program keeps. An entry has these four words:
+*/
+enum {
+    KELUBASHI_ENTRY_STATES = 0,     /* states whose epoch is a number; infinite ones are */
+    KELUBASHI_ENTRY_NANS = 1,       /* states whose epoch is a NaN */
+    KELUBASHI_ENTRY_EARLIEST = 2,   /* the word of the earliest epoch, s; +0 where the first word is 0 */
+    KELUBASHI_ENTRY_LATEST = 3,     /* the word of the latest */
+
+    KELUBASHI_ENTRY = 4,            /* words of an entry */
+    KELUBASHI_STATES = 4000,        /* words of the run: KELUBASHI_STATE for each of KELUBASHI_MOST_STATES */
+
+    KELUBASHI_CHANGE_REFUSAL = 0,   /* the status once more */
+    KELUBASHI_CHANGE_COUNT = 1,     /* states in use after the call; under a refusal the count given */
+
+    KELUBASHI_CHANGE_ANSWER = 2     /* words of the answer run of the three calls */
+};
+
+/*
+**  The whole list, worked out afresh: what a program begins with after it has read a file.
+**
+**  Given:
+**     states    the run of states, KELUBASHI_STATES words; any words may be given
+**     words     its count of words
+**     count     the states in use, the first of the run
+**     centres   the centres: any number, and 16 at most in an element file
+**     k         the count of list, in words: KELUBASHI_ENTRY for each centre
+**     n         the count of answer: 2, KELUBASHI_CHANGE_ANSWER
+**
+**  Returned:
+**     list      the entries of all centres, in the order of their numbers, with status 0; otherwise it
+**               is left as it was
+**     answer    refusal, then the count as it was given
+**
+**  -0 and +0 are one epoch, shown as +0. A state whose centre is not one of the centres is in no entry.
+**
+**  Refusals: 27, 41, 60.
+*/
+KELUBASHI_STATUS
+uint64_t kelubashi1_summary(const uint64_t *states, size_t words, uint64_t count, uint64_t centres,
+                            uint64_t *list, size_t k, uint64_t *answer, size_t n);
+
+/*
+**  A state more, behind those in use, and the entry of its centre anew.
+**
+**  Given:
+**     record    the state, KELUBASHI_STATE words in the order of the element file: the number of its
+**               centre, epoch, position, velocity
+**     r         the count of record
+**     states .. n   as for kelubashi1_summary
+**
+**  Returned, with status 0; otherwise both runs are left as they were:
+**     states    the record as that of the number count; all other words are left
+**     list      the entry of its centre, worked out from the states as they now stand, whatever it
+**               was; all other entries are left
+**     answer    refusal, then the states in use: count + 1
+**
+**  Refusals: the first that applies in the order 60, 27, 41, 24, 42.
+*/
+KELUBASHI_STATUS
+uint64_t kelubashi1_append(const uint64_t *record, size_t r, uint64_t *states, size_t words, uint64_t count,
+                           uint64_t centres, uint64_t *list, size_t k, uint64_t *answer, size_t n);
+
+/*
+**  A state fewer: those behind it move down one, and the entry of its centre anew.
+**
+**  Given:
+**     which     the number of the state, from 0
+**     states .. n   as for kelubashi1_summary
+**
+**  Returned, with status 0; otherwise both runs are left as they were:
+**     states    the states behind it one record lower; the last record, which is free then, keeps its
+**               words, and all others are left. Requests that name states by number are not changed:
+**               the numbers above which have become one less.
+**     list      as for kelubashi1_append, for the centre of the state withdrawn
+**     answer    refusal, then the states in use: count - 1
+**
+**  Refusals: the first that applies in the order 60, 27, 41, 24, 42.
+*/
+KELUBASHI_STATUS
+uint64_t kelubashi1_withdraw(uint64_t which, uint64_t *states, size_t words, uint64_t count, uint64_t centres,
+                             uint64_t *list, size_t k, uint64_t *answer, size_t n);
+
+/*
 **  A state of an orbit as doubles, as kelubashi_propagate and kelubashi_partials answer it.
 */
 struct kelubashi_answer {
@@ -419,10 +506,14 @@ static inline const struct kelubashi_refusal *kelubashi_refusal_of(uint64_t numb
               "cut the file there, or correct a count that is too small" },
         { 26, "the room is too small for the file",
               "lend as many bytes as the answer says, and call again" },
-        { 27, "a run to write is not whole records",
-              "give words as the count: 8 for each state, 2 for each request" },
+        { 27, "a run is not whole records, or a run of states not 500 with at most 500 in use",
+              "give words as the count: 8 for each state, 2 for each request, and 4,000 for a run of states" },
+        { 41, "the list does not have one entry for each centre",
+              "lend 4 words for each centre, and give as many as their count" },
+        { 42, "500 states are in use already, or the state to withdraw is not",
+              "withdraw a state first, or give the number of one that is there, from 0" },
         { 60, "the answer run is not as long as the answer; nothing is written",
-              "lend 15 words (1 for the root, 8 to read, 2 to write or for results), and give their count" },
+              "lend 15 words (1 for the root, 8 to read, 2 for the other calls with files or states), and give their count" },
         { 0, "a number that this edition does not have",
              "use a library and a header of one edition" }
     };

@@ -121,6 +121,8 @@ void change(enum kind kind, struct file *f, const struct file *other)
     do {
         if (kind == STATES)
             change_state(f, other);
+        else if (kind == ROSTERS)
+            change_roster(f, other);
         else
             change_bytes(kind, f, other);
     } while (one_in(2));

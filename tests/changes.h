@@ -12,6 +12,9 @@ void change(enum kind kind, struct file *input, const struct file *other);
 /* One change of a file or of sections, in its bytes, words or records. */
 void change_bytes(enum kind kind, struct file *input, const struct file *other);
 
+/* One change of a roster: of its states, its list or its calls. */
+void change_roster(struct file *input, const struct file *other);
+
 /* Another word: near it in some way, a special one, or any. */
 uint64_t changed(uint64_t word);
 

@@ -133,10 +133,10 @@ writes_nothing
 kelubashi 0 --version
 shows 'kelubashi, edition 1'
 kelubashi 0 --help
-for each in results show elements read state selfcheck; do
+for each in results show elements read centres state selfcheck; do
     shows "  kelubashi $each "
 done
-for each in results show elements read state selfcheck; do
+for each in results show elements read centres state selfcheck; do
     kelubashi 0 $each --help
     shows "usage: kelubashi $each"
     shows '  2  not done: cannot read, write, or understand the call'
@@ -218,7 +218,7 @@ file() {
     number=$1 place=$2
     second <"$3" >"$room/expected"
     [ "$(od -An -v -t u1 -j 16 -N 1 "$room/expected" | tr -d ' ')" = "$number" ] || fail "$3 is not refused with $number by the second program"
-    for words in "results -q -o $room/out/file" read "read -q"; do
+    for words in "results -q -o $room/out/file" read "read -q" centres "centres -q"; do
         # shellcheck disable=SC2086 # a list of words
         kelubashi 1 $words "$3"
         writes_nothing
@@ -265,10 +265,15 @@ unread "kelubashi: '--help' is no subcommand: see kelubashi --help" --help all
 unread "kelubashi results: 1 of 1 words are missing: usage: kelubashi results ELEMENTS [-o RESULTS]" results
 unread "kelubashi results: '$example' is one word too many: usage: kelubashi results ELEMENTS [-o RESULTS]" results "$good" $example
 unread "kelubashi show: 1 of 2 words are missing: usage: kelubashi show ELEMENTS RESULTS" show "$good"
+unread "kelubashi centres: 1 of 1 words are missing: usage: kelubashi centres ELEMENTS" centres
+unread "kelubashi centres: '$example' is one word too many: usage: kelubashi centres ELEMENTS" centres "$good" $example
 unread "kelubashi results: -o needs a name behind it: see kelubashi results --help" results "$good" -o
 unread "kelubashi results: -o is given twice: see kelubashi results --help" results "$good" -o a -o b
 unread "kelubashi results: -x is no option of it: see kelubashi results --help" results -x "$good"
 unread "kelubashi show: -o is no option of it: see kelubashi show --help" show -o a b c
+unread "kelubashi centres: -o is no option of it: see kelubashi centres --help" centres "$good" -o a
+unread "kelubashi centres: --any-bits is no option of it: see kelubashi centres --help" centres --any-bits "$good"
+unread "kelubashi: 'centers' is no subcommand: see kelubashi --help" centers "$good"
 unread "kelubashi results: --any-bits is no option of it: see kelubashi results --help" results --any-bits "$good"
 unread "kelubashi state: 'km' is no figure: see kelubashi state --help" state 1 2 3 4 5 6 7 km
 unread "kelubashi state: '1e999' is out of the range of doubles: see kelubashi state --help" state 1e999 2 3 4 5 6 7 8
@@ -279,6 +284,8 @@ unread "kelubashi results: $room/missing: cannot be read: No such file or direct
 unread "kelubashi results: $room: cannot be read: Is a directory: name a file and not a folder" results "$room" -o "$room/out/file"
 unread "kelubashi read: : cannot be read: No such file or directory: correct the name" read ''
 unread "kelubashi read: $good/x: cannot be read: Not a directory: correct the name" read "$good/x"
+unread "kelubashi centres: $room/missing: cannot be read: No such file or directory: correct the name" centres "$room/missing"
+unread "kelubashi centres: $room: cannot be read: Is a directory: name a file and not a folder" centres -q "$room"
 unread "kelubashi elements: $room/missing: cannot be read: No such file or directory: correct the name" elements "$room/missing" -o "$room/out/file"
 unread "kelubashi show: $room/missing: cannot be read: No such file or directory: correct the name" show "$good" "$room/missing"
 old_is_whole
@@ -365,6 +372,7 @@ unwritten 'kelubashi results' results -q "$room/full"
 unwritten 'kelubashi elements' elements -q "$room/full.txt"
 unwritten 'kelubashi show' show "$room/full" "$room/full.results"
 unwritten 'kelubashi read' read "$room/full"
+unwritten 'kelubashi centres' centres "$room/full"
 unwritten 'kelubashi state' state 1 1 0 0 0 0 0 1
 unwritten 'kelubashi selfcheck' selfcheck
 unwritten 'kelubashi' --help
@@ -445,6 +453,136 @@ cp "$room/good.results" "$results"
 kelubashi 2 show "$room/no_centre" "$results"
 says "kelubashi show: $room/no_centre: at byte 32, the centre of state 0: refused (24): a state's centre, or a request's state, is not there; correct that number: they start at 0 and stay below the section's count
 kelubashi show: $results: is of another element file: it has rows, and $room/no_centre is refused: name the element file that it is of, or make it anew with kelubashi results"
+
+# ---- centres: every line is held whole, to what the file has and what the document says of it.
+
+# The element file $1 of centres with each mu of $2, and of states with each CENTRE:EPOCH of $3.
+about() {
+    {
+        for mu in $2; do echo "centre $mu"; done
+        for each in $3; do echo "state ${each%%:*} ${each#*:} 1 0 0 0 0 0"; done
+    } >"$room/listing"
+    kelubashi 0 elements -q --any-bits "$room/listing" -o "$1"
+}
+
+# The screen of the element file $1, with these bytes and counts $2, and from standard input for each centre: its number and mu, how many
+# states have a number and a NaN for epoch, the earliest and the latest.
+screen() {
+    {
+        echo "$1: element file of edition 1, $2"
+        echo
+        echo '                         states whose epoch is   epoch'
+        echo 'centre     mu km^3/s^2     a number        NaN        earliest s        latest s'
+        while read -r centre mu numbers nans earliest latest; do
+            printf '%6s %15s   %10s %10s   %15s %15s\n' "$centre" "$mu" "$numbers" "$nans" "$earliest" "$latest"
+        done
+    } >"$room/screen"
+    kelubashi 0 centres -q "$1"
+    writes_nothing
+    says ''
+    kelubashi 0 centres "$1"
+    writes "$room/screen"
+    says ''
+}
+
+screen $example '672 bytes: centres 2, states 6, requests 15' <<SCREEN
+0 398600.4418 5 0 0.000 43200.000
+1 4902.8001 1 0 0.000 0.000
+SCREEN
+sed -n '/^examples/,/^\.EE/p' man/kelubashi-centres.1 | sed '$d' >"$room/page"
+cmp -s "$room/page" "$room/screen" || fail "the example of kelubashi-centres.1 is not the screen of $example"
+
+# In no order, below zero, the same twice, beyond the column's digits; a centre with no epoch shows +0 twice.
+about "$room/several" '398600.4418 4902.8001 0 -1 1e300' \
+    '0:500 2:-7.25 0:-20.5 3:-1 0:0.125 3:-3 2:-7.25 3:-2 0:1e9 4:9999999999.999 4:-1e10 0:-20.25'
+screen "$room/several" '840 bytes: centres 5, states 12, requests 0' <<SCREEN
+0 398600.4418 5 0 -20.500 1000000000.000
+1 4902.8001 0 0 0.000 0.000
+2 0.0000 2 0 -7.250 -7.250
+3 -1.0000 3 0 -3.000 -1.000
+4 1e+300 2 0 -1e+10 9999999999.999
+SCREEN
+
+# The same in a machine that hands over a few bytes at a time, or fails; and with a library that refuses.
+fault 0 few centres "$room/several"
+writes "$room/screen"
+fault 2 unread centres "$room/several"
+writes_nothing
+says "kelubashi centres: $room/several: cannot be read: Input/output error: look at that disk or device"
+for words in centres 'centres -q'; do
+    # shellcheck disable=SC2086 # a list of words
+    fault 2 summary $words "$room/several"
+    writes_nothing
+    says "kelubashi centres: $room/several: the library's summary is refused (41): the list does not have one entry for each centre; lend 4 words for each centre, and give as many as their count"
+done
+
+# Minus zero and zero are one epoch, shown as zero.
+about "$room/zeros" '1 2 3 4 5' '0:-0 1:-0 1:0 2:0 2:-0 3:-0 3:-5 4:7 4:-0'
+[ "$(od -An -v -t x8 -j 72 -N 8 "$room/zeros" | tr -d ' ')" = 8000000000000000 ] || fail 'the epoch of state 0 is not minus zero'
+screen "$room/zeros" '648 bytes: centres 5, states 9, requests 0' <<SCREEN
+0 1.0000 1 0 0.000 0.000
+1 2.0000 2 0 0.000 0.000
+2 3.0000 2 0 0.000 0.000
+3 4.0000 2 0 -5.000 0.000
+4 5.0000 2 0 0.000 7.000
+SCREEN
+
+# Infinite epochs count; states with a NaN epoch are in a count of their own only.
+about "$room/not_finite" '1 2 3 4 5 6 inf nan' '0:inf 1:-inf 2:inf 2:5 3:nan 4:nan 4:-2 2:-inf 4:-nan 4:8 4:nan 5:nan 5:-0 5:-inf 7:-9 7:nan'
+screen "$room/not_finite" '1120 bytes: centres 8, states 16, requests 0' <<SCREEN
+0 1.0000 1 0 inf inf
+1 2.0000 1 0 -inf -inf
+2 3.0000 3 0 -inf inf
+3 4.0000 0 1 0.000 0.000
+4 5.0000 2 3 -2.000 8.000
+5 6.0000 2 1 -inf 0.000
+6 inf 0 0 0.000 0.000
+7 nan 1 1 -9.000 -9.000
+SCREEN
+
+# The same by bytes: the first and the last NaN of either sign, the infinities beside them, and minus zero.
+for each in '\001\000\000\000\000\000\360\177:0 1 0.000 0.000' '\377\377\377\377\377\377\377\177:0 1 0.000 0.000' \
+    '\001\000\000\000\000\000\360\377:0 1 0.000 0.000' '\377\377\377\377\377\377\377\377:0 1 0.000 0.000' \
+    '\000\000\000\000\000\000\360\177:1 0 inf inf' '\000\000\000\000\000\000\360\377:1 0 -inf -inf' \
+    '\000\000\000\000\000\000\000\200:1 0 0.000 0.000'; do
+    # shellcheck disable=SC2059 # bytes
+    { head -c 40 "$good" && printf "${each%%:*}" && tail -c +49 "$good"; } >"$room/epoch"
+    screen "$room/epoch" '120 bytes: centres 1, states 1, requests 1' <<SCREEN
+0 398600.4418 ${each#*:}
+SCREEN
+done
+
+# 16 centres and 500 states: centre after centre, about even ones from -250 s up, about odd ones from 250 s down.
+awk 'BEGIN {
+    for (k = 0; k < 16; k++) print "centre", k + 1
+    for (i = 0; i < 500; i++) print "state", i % 16, i % 2 == 0 ? i - 250 : 250 - i, "1 0 0 0 0 0"
+}' >"$room/listing"
+kelubashi 0 elements -q "$room/listing" -o "$room/fullest"
+for k in 0 1 2 3 4 5 6 7 8 9 10 11 12 13 14 15; do
+    numbers=31 last=$((480 + k))
+    [ $k -gt 3 ] || { numbers=32 && last=$((496 + k)); }
+    case $((k % 2)) in
+    0) echo "$k $((k + 1)).0000 $numbers 0 $((k - 250)).000 $((last - 250)).000" ;;
+    1) echo "$k $((k + 1)).0000 $numbers 0 $((250 - last)).000 $((250 - k)).000" ;;
+    esac
+done >"$room/lines"
+screen "$room/fullest" '32160 bytes: centres 16, states 500, requests 0' <"$room/lines"
+
+# All 500 about the last centre, the earliest first and the latest last; no state at all; no centre.
+awk 'BEGIN { for (k = 0; k < 16; k++) print "centre 1"; for (i = 0; i < 500; i++) print "state 15", i, "1 0 0 0 0 0" }' >"$room/listing"
+kelubashi 0 elements -q "$room/listing" -o "$room/crowded"
+{
+    for k in 0 1 2 3 4 5 6 7 8 9 10 11 12 13 14; do echo "$k 1.0000 0 0 0.000 0.000"; done
+    echo '15 1.0000 500 0 0.000 499.000'
+} >"$room/lines"
+screen "$room/crowded" '32160 bytes: centres 16, states 500, requests 0' <"$room/lines"
+about "$room/bare" '1 2' ''
+screen "$room/bare" '48 bytes: centres 2, states 0, requests 0' <<SCREEN
+0 1.0000 0 0 0.000 0.000
+1 2.0000 0 0 0.000 0.000
+SCREEN
+about "$room/nothing" '' ''
+screen "$room/nothing" '32 bytes: centres 0, states 0, requests 0' </dev/null
 
 # ---- elements: lines that are not good, each with its number; nothing is written.
 

@@ -1,7 +1,9 @@
 /*
 **  Faults of a machine, for the command: linked with --wrap, these stand before the system's calls, and
-**  the word in the environment's FAULT says which of them fails, and how.
+**  one call of the library's; the word in the environment's FAULT says which of them fails, and how.
 */
+#include "kelubashi.h"
+
 #include <errno.h>
 #include <signal.h>
 #include <stdlib.h>
@@ -14,6 +16,8 @@ int __real_close(int file);
 int __real_fchmod(int file, mode_t mode);
 ssize_t __real_write(int file, const void *bytes, size_t length);
 ssize_t __real_read(int file, void *bytes, size_t length);
+uint64_t __real_kelubashi1_summary(const uint64_t *states, size_t words, uint64_t count, uint64_t centres,
+                                   uint64_t *list, size_t k, uint64_t *answer, size_t n);
 
 int __wrap_rename(const char *from, const char *to);
 int __wrap_fsync(int file);
@@ -21,6 +25,10 @@ int __wrap_close(int file);
 int __wrap_fchmod(int file, mode_t mode);
 ssize_t __wrap_write(int file, const void *bytes, size_t length);
 ssize_t __wrap_read(int file, void *bytes, size_t length);
+uint64_t __wrap_kelubashi1_summary(const uint64_t *states, size_t words, uint64_t count, uint64_t centres,
+                                   uint64_t *list, size_t k, uint64_t *answer, size_t n);
+
+static int reads = 0;   /* calls of read so far */
 
 static int fault(const char *name)
 {
@@ -84,12 +92,18 @@ ssize_t __wrap_write(int file, const void *bytes, size_t length)
 
 ssize_t __wrap_read(int file, void *bytes, size_t length)
 {
-    static int calls = 0;
-
-    calls++;
-    if (fault("few") && calls % 2 == 0)
+    reads++;
+    if (fault("few") && reads % 2 == 0)
         return failed(EINTR);
-    if (fault("unread") && calls == 2)
+    if (fault("unread") && reads == 2)
         return failed(EIO);
     return __real_read(file, bytes, (fault("few") || fault("unread")) && length > 100 ? 100 : length);
+}
+
+/* A library that gives no list, once a file has been read: what comes before is the self-check's. */
+uint64_t __wrap_kelubashi1_summary(const uint64_t *states, size_t words, uint64_t count, uint64_t centres,
+                                   uint64_t *list, size_t k, uint64_t *answer, size_t n)
+{
+    return __real_kelubashi1_summary(states, words, count, fault("summary") && reads > 0 ? centres + 1 : centres,
+                                     list, k, answer, n);
 }

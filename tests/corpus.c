@@ -26,7 +26,7 @@ size_t corpus_count(enum kind kind)
 
 size_t corpus_size(void)
 {
-    return corpora[STATES].count + corpora[FILES].count + corpora[SECTIONS].count;
+    return corpora[STATES].count + corpora[FILES].count + corpora[SECTIONS].count + corpora[ROSTERS].count;
 }
 
 static void *enough(void *memory)

@@ -150,13 +150,16 @@ static void give_elements(uint64_t number)
 
 static void try_elements(uint64_t number)
 {
-    enum status status;
+    enum status status, wanted;
     uint64_t answer[8];
     size_t length;
 
     give_elements(number);
+    wanted = second_read(file.bytes, file.length, answer, 8) == 0 ? ALL_WELL : SOMETHING_REFUSED;
     status = run(&read_subcommand, 0, 0);
-    hold(status == (second_read(file.bytes, file.length, answer, 8) == 0 ? ALL_WELL : SOMETHING_REFUSED), "read ends otherwise");
+    hold(status == wanted, "read ends otherwise");
+    status = run(&centres_subcommand, 0, 0);
+    hold(status == wanted, "centres ends otherwise");
     status = run(&results_subcommand, 1, 0);
     hold(status == status_of(right, right_length), "results ends otherwise");
     length = take_written(wrote, sizeof wrote);

@@ -5,12 +5,14 @@
 **     guided state WORD..                one state again, by its eight words in hex
 **     guided file NAME                   one file again
 **     guided sections NAME               sections again, from a file that this program wrote
+**     guided roster NAME                 a roster and its calls again, from such a file
 **
 **  Inputs by which the second program goes a way that it never went before are kept, and changed into others.
-**  They begin with the families of the other two comparisons, and each is asked and compared as there.
+**  They begin with the families of the other three comparisons, and each is asked and compared as there.
 */
 #include "ask_file.h"
 #include "ask_state.h"
+#include "ask_summary.h"
 #include "changes.h"
 #include "corpus.h"
 #include "drive.h"
@@ -29,12 +31,13 @@
 #define FRESH 2     /* one in so many is so later too; with 1 there is nothing else */
 #endif
 
-static const char *const names[KINDS] = { "state", "file", "sections" };
+static const char *const names[KINDS] = { "state", "file", "sections", "roster" };
 
 static const char *program;
 static enum kind kind;
 static struct file input, other;
 static struct sections sections;
+static struct roster roster;
 
 /* ---- one input ---- */
 
@@ -63,9 +66,13 @@ static void ask(const char *family)
     case FILES:
         ask_file(family, &input);
         break;
-    default:
+    case SECTIONS:
         unpack_sections(&input, &sections);
         ask_sections(family, &sections);
+        break;
+    default:
+        unpack_roster(&input, &roster);
+        ask_roster(family, &roster);
         break;
     }
 }
@@ -98,13 +105,24 @@ static const char *fresh_file(void)
     return family->name;
 }
 
+static const char *fresh_roster(void)
+{
+    static uint64_t number;
+    uint64_t turn;
+    const struct roster_family *family = roster_family(number++, &turn);
+
+    family->make(&roster, turn);
+    pack_roster(&input, &roster);
+    return family->name;
+}
+
 static void compare_one(uint64_t number)
 {
     const char *family = "changes";
 
-    kind = one_in(2) ? STATES : one_in(4) ? SECTIONS : FILES;
+    kind = one_in(2) ? STATES : one_in(4) ? ROSTERS : one_in(4) ? SECTIONS : FILES;
     if (number < BEGINNING || one_in(FRESH) || corpus_count(kind) == 0)
-        family = kind == STATES ? fresh_state() : fresh_file();
+        family = kind == STATES ? fresh_state() : kind == ROSTERS ? fresh_roster() : fresh_file();
     else {
         corpus_take(kind, &input);
         corpus_take(kind, &other);
@@ -157,7 +175,7 @@ static void repeat(void)
 static void wrong_words(void)
 {
     fprintf(stderr, "guided: give guided [N [SEED]], or state and its eight words in hex of 16 digits, "
-                    "or file or sections and a name\n");
+                    "or file, sections or roster and a name\n");
     exit(EXIT_FAILURE);
 }
 
@@ -187,15 +205,24 @@ static void take_file(const char *name)
     fclose(in);
 }
 
+/* The kind of this name, KINDS where there is none. */
+static enum kind kind_of(const char *name)
+{
+    int i = 0;
+
+    while (i < KINDS && strcmp(name, names[i]) != 0)
+        i++;
+    return (enum kind)i;
+}
+
 static int again(int count, char **words)
 {
-    if (strcmp(words[1], names[STATES]) == 0 && count == 2 + EIGHT) {
-        kind = STATES;
+    kind = kind_of(words[1]);
+    if (kind == STATES && count == 2 + EIGHT)
         take_words(words + 2);
-    } else if (count == 3 && (strcmp(words[1], names[FILES]) == 0 || strcmp(words[1], names[SECTIONS]) == 0)) {
-        kind = strcmp(words[1], names[FILES]) == 0 ? FILES : SECTIONS;
+    else if (kind != STATES && kind != KINDS && count == 3)
         take_file(words[2]);
-    } else
+    else
         wrong_words();
     ask("given");
     printf("guided: the %s given: none differs\n", names[kind]);

@@ -2,6 +2,8 @@
 
 #include "orbits.h"
 
+#include <string.h>
+
 #define ROOM(run) (sizeof(run) / sizeof(run)[0])
 
 void pack_state(struct file *f, const uint64_t *words)
@@ -62,4 +64,50 @@ void unpack_sections(const struct file *f, struct sections *s)
     s->centre_words = take(f, &place, s->centres, word_or_zero(f, 0), ROOM(s->centres));
     s->state_words = take(f, &place, s->states, word_or_zero(f, 8), ROOM(s->states));
     s->request_words = take(f, &place, s->requests, word_or_zero(f, 16), ROOM(s->requests));
+}
+
+static void add_call(struct file *f, const struct call *call)
+{
+    uint64_t words[CALL_WORDS];
+
+    memcpy(words, call, sizeof words);
+    add_run(f, words, CALL_WORDS);
+}
+
+void pack_roster(struct file *f, const struct roster *r)
+{
+    size_t i;
+
+    f->length = 0;
+    add_word(f, r->count);
+    add_word(f, r->centres);
+    add_word(f, r->fill);
+    add_word(f, r->records);
+    add_word(f, r->list_words);
+    add_run(f, r->states, STATE * r->records);
+    add_run(f, r->list, r->list_words);
+    for (i = 0; i < r->calls; i++)
+        add_call(f, &r->call[i]);
+}
+
+static void take_call(const struct file *f, size_t *place, struct call *call)
+{
+    uint64_t words[CALL_WORDS];
+
+    take(f, place, words, CALL_WORDS, CALL_WORDS);
+    memcpy(call, words, sizeof words);
+}
+
+void unpack_roster(const struct file *f, struct roster *r)
+{
+    size_t place = 40;
+
+    r->count = word_or_zero(f, 0);
+    r->centres = word_or_zero(f, 8);
+    r->fill = word_or_zero(f, 16);
+    r->records = (size_t)(word_or_zero(f, 24) % (RECORDS + 1));
+    take(f, &place, r->states, STATE * r->records, SECTION);
+    r->list_words = take(f, &place, r->list, word_or_zero(f, 32), LIST_ROOM);
+    for (r->calls = 0; r->calls < MOST_CALLS && place < f->length; r->calls++)
+        take_call(f, &place, &r->call[r->calls]);
 }

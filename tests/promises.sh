@@ -49,7 +49,9 @@ while read -r crate module type name promised; do
     [ "$module" = lib ] || path=$module.$path
     laws=crates/$crate/proofs/OneAnswers.antt
     alias=$(sed -n "s/^use Rattle\.$crate\.proofs\.$path\.Reads as //p" "$laws" 2>/dev/null)
+    walked=$(sed -n "s/^use Rattle\.$crate\.proofs\.$path as //p" "$laws" 2>/dev/null)    # proved by a walk of its code
     { [ -n "$alias" ] && grep -qE "^pub [^ ]+ : OneAnswer .* $alias\.Post$" "$laws"; } ||
+        { [ -n "$walked" ] && grep -qE "^pub [^ ]+ : .*OneAnswerOf M $walked\.ended $walked\.clauses$" "$laws"; } ||
         say "crates/$crate/src/$module.rt: no law in $laws says that any two answers of $path are equal"
 done <"$list"
 

@@ -33,9 +33,9 @@ fi
 # ---- The programs, once with sanitizers and once plain.
 
 command='command/*.c command/parts/*.c host/kelubashi_selfcheck.c tests/second_library.c'
-second=$(printf 'tests/second/%s.c ' root series search states files)
+second=$(printf 'tests/second/%s.c ' root series search states files summary)
 drive=$(printf 'tests/%s.c ' drive orbits sections damaged)
-wrapped=$(printf ' -Wl,--wrap=%s' rename fsync close fchmod write read)
+wrapped=$(printf ' -Wl,--wrap=%s' rename fsync close fchmod write read kelubashi1_summary)
 
 # One name is linked of these files; nothing is compiled twice, however many names there are.
 compile() {
@@ -104,11 +104,13 @@ example=examples/orbits.elements
 grind 1 "$kelubashi" results $example -o "$files/results"
 grind 1 "$kelubashi" show $example "$files/results"
 grind 0 "$kelubashi" read $example
+grind 0 "$kelubashi" centres $example
 grind 0 "$kelubashi" elements examples/orbits.txt -o "$files/elements"
 head -c 100 "$files/results" >"$files/torn"
 grind 2 "$kelubashi" show $example "$files/torn"
 head -c 100 $example >"$files/short"
 grind 1 "$kelubashi" results "$files/short"
+grind 1 "$kelubashi" centres "$files/short"
 printf 'centre 1\nstate 3 0 1 0 0 0 0 0\n' >"$files/listing"
 grind 2 "$kelubashi" elements "$files/listing"
 grind 0 "$kelubashi" state 398600.4418 1131.340 -2282.343 6672.423 -5.64305 4.30333 2.42879 600

@@ -37,3 +37,21 @@ uint64_t kelubashi1_results(const uint8_t *file, size_t length, uint8_t *room, s
 {
     return second_results(file, length, room, size, answer, n);
 }
+
+uint64_t kelubashi1_summary(const uint64_t *states, size_t words, uint64_t count, uint64_t centres, uint64_t *list,
+                            size_t k, uint64_t *answer, size_t n)
+{
+    return second_summary(states, words, count, centres, list, k, answer, n);
+}
+
+uint64_t kelubashi1_append(const uint64_t *record, size_t r, uint64_t *states, size_t words, uint64_t count,
+                           uint64_t centres, uint64_t *list, size_t k, uint64_t *answer, size_t n)
+{
+    return second_append(record, r, states, words, count, centres, list, k, answer, n);
+}
+
+uint64_t kelubashi1_withdraw(uint64_t which, uint64_t *states, size_t words, uint64_t count, uint64_t centres,
+                             uint64_t *list, size_t k, uint64_t *answer, size_t n)
+{
+    return second_withdraw(which, states, words, count, centres, list, k, answer, n);
+}

@@ -14,7 +14,7 @@ run() {
     sh tests/machine.sh run "$@"
 }
 
-second=$(printf 'tests/second/%s.c ' root series search states files)
+second=$(printf 'tests/second/%s.c ' root series search states files summary)
 
 # fast-math alone may change a host's own figures; what it links is what changes the library's
 for how in -O0 -O2 '-O3 -ffast-math'; do
@@ -45,7 +45,7 @@ if ! grep -q 'NOT TRIED' "$room/said_fast"; then
     compile -ffast-math -o "$room/kelubashi" build/command/*.o build/command/parts/*.o build/host/kelubashi_selfcheck.o \
         build/libkelubashi.a
     rm -f "$room/results"
-    for words in selfcheck 'selfcheck -q' "results examples/orbits.elements -o $room/results" 'read examples/orbits.elements' \
+    for words in selfcheck 'selfcheck -q' "results examples/orbits.elements -o $room/results" 'read examples/orbits.elements' 'centres examples/orbits.elements' \
         'show examples/orbits.elements examples/orbits.elements' 'elements examples/orbits.txt' 'state 0 1 0 0 0 0 0 1'; do
         status=0
         # shellcheck disable=SC2086 # a list of words

@@ -19,7 +19,9 @@ enum fault {
     PARTIALS_UNWRITTEN, PARTIALS_BY_COLUMN, PARTIALS_LAST_BIT, PARTIALS_WITHOUT_ANSWER, PARTIALS_ANY_RUN, PARTIALS_UNDER_REFUSAL,
     READ_REFUSES_ALL, READ_BY_WORDS, READ_STATES_FOR_CENTRES, READ_TAKES_SHORT_FILES, READ_PLACE_LOST,
     WRITE_HIGHEST_FIRST, WRITE_NOTHING, WRITE_BEYOND, WRITE_IN_ANY_ROOM, WRITE_LENGTH_IN_WORDS,
-    RESULTS_OF_ZEROS, RESULTS_WITHOUT_COUNT, RESULTS_REFUSE, RESULTS_TAKE_SHORT_FILES, RESULTS_LENGTH_LOST
+    RESULTS_OF_ZEROS, RESULTS_WITHOUT_COUNT, RESULTS_REFUSE, RESULTS_TAKE_SHORT_FILES, RESULTS_LENGTH_LOST,
+    APPEND_UNWRITTEN, APPEND_SHOWS_MINUS_ZERO, APPEND_COUNTS_NANS, APPEND_LEAVES_OUT_INFINITIES, APPEND_ALL_ENTRIES, APPEND_COUNT_LOST, APPEND_ANY_CENTRE,
+    WITHDRAW_MOVES_UP, WITHDRAW_CLEARS, WITHDRAW_OLD_ENTRY, WITHDRAW_NEVER_REFUSES, SUMMARY_UNWRITTEN, SUMMARY_ANY_RUN, SUMMARY_OF_ZEROS
 };
 
 static enum fault fault;
@@ -66,7 +68,21 @@ static const struct telling {
     { RESULTS_WITHOUT_COUNT, DOES_NOT "the results of P10's file: a word of the room is 0000000000000000 and not 0000000000000001: " },
     { RESULTS_REFUSE, DOES_NOT "the results of P10's file, a byte short: the status is 21 and not 0: " },
     { RESULTS_TAKE_SHORT_FILES, DOES_NOT "the results of P10's file, a byte short: the length is 104 and not 24: " },
-    { RESULTS_LENGTH_LOST, DOES_NOT "the results of P10's file: the length is 0 and not 104: " }
+    { RESULTS_LENGTH_LOST, DOES_NOT "the results of P10's file: the length is 0 and not 104: " },
+    { APPEND_UNWRITTEN, DOES_NOT "a state at -0 s appended: a word of the states is 5EED5EED5EED5EED and not 0000000000000000: " },
+    { APPEND_SHOWS_MINUS_ZERO, DOES_NOT "a state at -0 s appended: its earliest epoch is 8000000000000000 and not 0000000000000000: " },
+    { APPEND_COUNTS_NANS, DOES_NOT "a state at a NaN appended: the states of centre 1 is 0000000000000001 and not 0000000000000000: " },
+    { APPEND_LEAVES_OUT_INFINITIES, DOES_NOT "an infinite epoch appended: the states of centre 0 is 0000000000000001 and not 0000000000000002: " },
+    { APPEND_ALL_ENTRIES, DOES_NOT "a state at -0 s appended: the states of centre 1 is 0000000000000000 and not 5EED5EED5EED5EED: " },
+    { APPEND_COUNT_LOST, DOES_NOT "a state at -0 s appended: the count of states is 0 and not 1: " },
+    { APPEND_ANY_CENTRE, DOES_NOT "a state of no centre: the status is 0 and not 24: " },
+    { WITHDRAW_MOVES_UP, DOES_NOT "the first state withdrawn: a word of the states is 0000000000000000 and not 0000000000000001: " },
+    { WITHDRAW_CLEARS, DOES_NOT "the first state withdrawn: a word of the states is 0000000000000000 and not FFF0000000000000: " },
+    { WITHDRAW_OLD_ENTRY, DOES_NOT "the first state withdrawn: the states of centre 0 is 0000000000000002 and not 0000000000000001: " },
+    { WITHDRAW_NEVER_REFUSES, DOES_NOT "a state that is not there withdrawn: the status is 0 and not 42: " },
+    { SUMMARY_UNWRITTEN, DOES_NOT "a summary: the states of centre 0 is 5EED5EED5EED5EED and not 0000000000000001: " },
+    { SUMMARY_ANY_RUN, DOES_NOT "a summary of a run a word short: the status is 0 and not 27: " },
+    { SUMMARY_OF_ZEROS, DOES_NOT "a summary: the states of centre 0 is 0000000000000000 and not 0000000000000001: " }
 };
 
 static int is_subnormal(uint64_t word)
@@ -240,6 +256,77 @@ uint64_t kelubashi1_results(const uint8_t *file, size_t length, uint8_t *room, s
     if (fault == RESULTS_LENGTH_LOST)
         answer[KELUBASHI_RESULTS_LENGTH] = 0;
     return fault == RESULTS_REFUSE && length < 120 ? 21 : status;
+}
+
+/* The whole list anew, whatever was to be left of it. */
+static void list_anew(const uint64_t *states, uint64_t count, uint64_t centres, uint64_t *list, size_t k)
+{
+    uint64_t answer[KELUBASHI_CHANGE_ANSWER];
+
+    second_summary(states, KELUBASHI_STATES, count, centres, list, k, answer, KELUBASHI_CHANGE_ANSWER);
+}
+
+/* The entry of the appended state with the fault. */
+static void spoil_entry(const uint64_t *record, uint64_t *entry)
+{
+    if (fault == APPEND_SHOWS_MINUS_ZERO && entry[KELUBASHI_ENTRY_EARLIEST] == 0)
+        entry[KELUBASHI_ENTRY_EARLIEST] = record[1];
+    if (fault == APPEND_COUNTS_NANS)
+        entry[KELUBASHI_ENTRY_STATES] += entry[KELUBASHI_ENTRY_NANS];
+    if (fault == APPEND_LEAVES_OUT_INFINITIES && record[1] << 1 == UINT64_C(0xFFE0000000000000))
+        entry[KELUBASHI_ENTRY_STATES]--;
+}
+
+uint64_t kelubashi1_append(const uint64_t *record, size_t r, uint64_t *states, size_t words, uint64_t count,
+                           uint64_t centres, uint64_t *list, size_t k, uint64_t *answer, size_t n)
+{
+    uint64_t kept[KELUBASHI_STATE];
+    uint64_t status;
+
+    memcpy(kept, states + KELUBASHI_STATE * count, sizeof kept);
+    status = second_append(record, r, states, words, count, centres, list, k, answer, n);
+    if (status == 0)
+        spoil_entry(record, list + KELUBASHI_ENTRY * record[0]);
+    if (fault == APPEND_UNWRITTEN)
+        memcpy(states + KELUBASHI_STATE * count, kept, sizeof kept);
+    if (fault == APPEND_ALL_ENTRIES)
+        list_anew(states, count + 1, centres, list, k);
+    if (fault == APPEND_COUNT_LOST)
+        answer[KELUBASHI_CHANGE_COUNT] = count;
+    return fault == APPEND_ANY_CENTRE ? 0 : status;
+}
+
+uint64_t kelubashi1_withdraw(uint64_t which, uint64_t *states, size_t words, uint64_t count, uint64_t centres,
+                             uint64_t *list, size_t k, uint64_t *answer, size_t n)
+{
+    static uint64_t kept[KELUBASHI_STATES], entries[KELUBASHI_MOST_CENTRES * KELUBASHI_ENTRY];
+    uint64_t status;
+
+    memcpy(kept, states, sizeof kept);
+    memcpy(entries, list, k * sizeof *list);
+    status = second_withdraw(which, states, words, count, centres, list, k, answer, n);
+    if (fault == WITHDRAW_MOVES_UP) {
+        memcpy(states, kept, KELUBASHI_STATE * sizeof *kept);
+        memcpy(states + KELUBASHI_STATE, kept, sizeof kept - KELUBASHI_STATE * sizeof *kept);
+    }
+    if (fault == WITHDRAW_CLEARS && status == 0)
+        memset(states + KELUBASHI_STATE * (count - 1), 0, KELUBASHI_STATE * sizeof *states);
+    if (fault == WITHDRAW_OLD_ENTRY)
+        memcpy(list, entries, k * sizeof *list);
+    return fault == WITHDRAW_NEVER_REFUSES ? 0 : status;
+}
+
+uint64_t kelubashi1_summary(const uint64_t *states, size_t words, uint64_t count, uint64_t centres, uint64_t *list,
+                            size_t k, uint64_t *answer, size_t n)
+{
+    static uint64_t right[KELUBASHI_MOST_CENTRES * KELUBASHI_ENTRY];
+    uint64_t status = second_summary(states, fault == SUMMARY_ANY_RUN ? KELUBASHI_STATES : words, count, centres, right, k, answer, n);
+
+    if (fault == SUMMARY_OF_ZEROS)
+        memset(right, 0, sizeof right);
+    if (status == 0 && fault != SUMMARY_UNWRITTEN)
+        memcpy(list, right, k * sizeof *list);
+    return status;
 }
 
 int main(void)

@@ -93,6 +93,13 @@ size_t request_count(const struct element_file *elements)
     return (size_t)elements->answer[KELUBASHI_READ_REQUEST_COUNT];
 }
 
+void show_counts(const struct element_file *elements)
+{
+    printf("%s: element file of edition 1, %lu bytes: centres %lu, states %lu, requests %lu\n", elements->name,
+           (unsigned long)elements->length, (unsigned long)centre_count(elements), (unsigned long)state_count(elements),
+           (unsigned long)request_count(elements));
+}
+
 /* A word of a record, the records standing behind the count at this place. */
 static uint64_t record_word(const struct element_file *elements, int place, size_t record, size_t width, size_t word)
 {
@@ -112,6 +119,15 @@ uint64_t state_word(const struct element_file *elements, size_t state, size_t wo
 uint64_t request_word(const struct element_file *elements, size_t request, size_t word)
 {
     return record_word(elements, KELUBASHI_READ_REQUESTS, request, KELUBASHI_REQUEST, word);
+}
+
+void copy_states(const struct element_file *elements, uint64_t *run)
+{
+    size_t state, word;
+
+    for (state = 0; state < state_count(elements); state++)
+        for (word = 0; word < KELUBASHI_STATE; word++)
+            run[state * KELUBASHI_STATE + word] = state_word(elements, state, word);
 }
 
 size_t state_of(const struct element_file *elements, size_t request)

@@ -33,6 +33,12 @@ uint64_t centre_word(const struct element_file *elements, size_t centre);
 uint64_t state_word(const struct element_file *elements, size_t state, size_t word);
 uint64_t request_word(const struct element_file *elements, size_t request, size_t word);
 
+/* A line with the file and how many there are. */
+void show_counts(const struct element_file *elements);
+
+/* All states, as the first of a run of KELUBASHI_STATES words; the words behind them are left. */
+void copy_states(const struct element_file *elements, uint64_t *run);
+
 /* The state of a request, and how long after its epoch the request's time is, in s. */
 size_t state_of(const struct element_file *elements, size_t request);
 double interval_of(const struct element_file *elements, size_t request);

@@ -42,4 +42,24 @@ uint64_t second_results(const uint8_t *file, size_t len,
                         uint8_t *room, size_t room_len,
                         uint64_t *answer, size_t n);
 
+/* The summary beside the states.  words = 4000, a section of 500 records with
+ * the first count of them in use; k = four times centres, for each centre the
+ * states with an epoch that is a number, those with a NaN, earliest, latest.
+ * n = 2 in all three: number, then the count of states afterwards, or under a
+ * refusal as it came in. */
+uint64_t second_summary(const uint64_t *states, size_t words, uint64_t count,
+                        uint64_t centres, uint64_t *list, size_t k,
+                        uint64_t *answer, size_t n);
+
+/* r = 8: the record that becomes the last state in use. */
+uint64_t second_append(const uint64_t *record, size_t r,
+                       uint64_t *states, size_t words, uint64_t count,
+                       uint64_t centres, uint64_t *list, size_t k,
+                       uint64_t *answer, size_t n);
+
+/* which: the number of the state that goes. */
+uint64_t second_withdraw(uint64_t which, uint64_t *states, size_t words,
+                         uint64_t count, uint64_t centres, uint64_t *list,
+                         size_t k, uint64_t *answer, size_t n);
+
 #endif

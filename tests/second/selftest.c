@@ -1,6 +1,7 @@
 /* Self-test: the document's marked cases, its "Run:" cases, every refusal of
- * the files, and the physics on random orbits.  Expectations come from the
- * document's rules and from mechanics, never from a run of this program. */
+ * the files and of the summary, and the physics on random orbits.
+ * Expectations come from the documents' rules and from mechanics, never from a
+ * run of this program. */
 #include "selftest.h"
 
 #include "parts.h"
@@ -120,6 +121,9 @@ int main(void)
     selftest_search();
     selftest_orbits();
     selftest_files();
+    selftest_summary();
+    selftest_changes();
+    selftest_refused();
     printf("second program: %lu checks, %lu faults\n", checks, faults);
     return faults != 0;
 }

@@ -38,5 +38,8 @@ void selftest_calls(void);
 void selftest_search(void);
 void selftest_orbits(void);
 void selftest_files(void);
+void selftest_summary(void);
+void selftest_changes(void);
+void selftest_refused(void);
 
 #endif

@@ -38,7 +38,7 @@ pub no-nan-bits : (w : ℕ) → fieldOf w ≤ 2046 → T (not (nanBits binary64 
 no-nan-bits w h = no-nan-word w (omega arith)
 
 -- A field up to 2046 is a number's, with the sign s; 2047 is an infinity's or a NaN's.
-by-field : (s : Bool) (x t : ℕ) → x ≤ 2046 → HasValue (ofFields binary64 s x t) s (scaled x t) (2 ^ 1074)
+pub by-field : (s : Bool) (x t : ℕ) → x ≤ 2046 → HasValue (ofFields binary64 s x t) s (scaled x t) (2 ^ 1074)
 unfolding ofFields
 by-field s zero t h = subst (λ (z : ℕ). HasValue (odd 53 s t 0 1074) s z (2 ^ 1074)) (mul-one t) (odd-sign 53 s t 0 1074)
 by-field s (suc x) t h =

@@ -7,6 +7,7 @@ pub mod Computed
 pub mod Exists
 pub mod Doubles
 pub mod Order
+pub mod Line
 pub mod RootLaws
 pub mod RunLaws
 pub mod OneAnswers

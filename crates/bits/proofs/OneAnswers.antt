@@ -16,6 +16,12 @@ use Rattle.bits.proofs.words.place_of.Kinds as place-of-kinds
 use Rattle.bits.proofs.words.place_of.Reads as place-of-reads
 use Rattle.bits.proofs.words.magnitude_of.Kinds as magnitude-of-kinds
 use Rattle.bits.proofs.words.magnitude_of.Reads as magnitude-of-reads
+use Rattle.bits.proofs.words.is_nan_word.Kinds as is-nan-word-kinds
+use Rattle.bits.proofs.words.is_nan_word.Reads as is-nan-word-reads
+use Rattle.bits.proofs.words.line_of.Kinds as line-of-kinds
+use Rattle.bits.proofs.words.line_of.Reads as line-of-reads
+use Rattle.bits.proofs.words.word_on.Kinds as word-on-kinds
+use Rattle.bits.proofs.words.word_on.Reads as word-on-reads
 use Rattle.bits.proofs.runs.first_of.Kinds as first-of-kinds
 use Rattle.bits.proofs.runs.first_of.Reads as first-of-reads
 use Rattle.bits.proofs.runs.has.Kinds as has-kinds
@@ -47,6 +53,15 @@ place-of-one κs a x y v w p q = (p ∙ sym q, refl)
 
 pub magnitude-of-one : OneAnswer 0 magnitude-of-kinds.ps magnitude-of-kinds.r magnitude-of-reads.Post
 magnitude-of-one κs a x y v w p q = (p ∙ sym q, refl)
+
+pub is-nan-word-one : OneAnswer 0 is-nan-word-kinds.ps is-nan-word-kinds.r is-nan-word-reads.Post
+is-nan-word-one κs a x y v w p q = (p ∙ sym q, refl)
+
+pub line-of-one : OneAnswer 0 line-of-kinds.ps line-of-kinds.r line-of-reads.Post
+line-of-one κs a x y v w p q = (p ∙ sym q, refl)
+
+pub word-on-one : OneAnswer 0 word-on-kinds.ps word-on-kinds.r word-on-reads.Post
+word-on-one κs a x y v w p q = (p ∙ sym q, refl)
 
 pub first-of-one : OneAnswer 1 first-of-kinds.ps first-of-kinds.r first-of-reads.Post
 first-of-one κs a x y v w p q = (p ∙ sym q, refl)

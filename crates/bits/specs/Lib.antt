@@ -2,6 +2,7 @@
 pub mod Choice
 pub mod Arithmetic
 pub mod Words
+pub mod Line
 pub mod Runs
 pub mod Root
 pub mod Cases

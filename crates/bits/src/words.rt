@@ -3,6 +3,7 @@ ghost use mathlib.Core.Path.{_≡_};
 ghost use lib.Ieee.{binary64, ofBits, toBits};
 ghost use Rattle.bits.specs.Arithmetic.{isFinite, magnitude};
 ghost use Rattle.bits.specs.Words.{kindOf, placeOf};
+ghost use Rattle.bits.specs.Line.{isNanWord, lineOf, wordOn};
 
 // The weight of a word's sign bit.
 pub const SIGN: u64 = 0x8000_0000_0000_0000;
@@ -83,4 +84,33 @@ pub fn magnitude_of(x: f64) -> f64
         return x;
     }
     f64::from_bits(f64::to_bits(x) % SIGN)
+}
+
+// Whether a word is a NaN's. No double is made of it.
+pub fn is_nan_word(word: u64) -> bool
+    ensures { λ r. ⌜ r ≡ isNanWord word ⌝ }
+{
+    if word % SIGN > INFINITY { true } else { false }
+}
+
+// The place of a word on the line of doubles: both zeros have the one in the middle.
+pub fn line_of(word: u64) -> u64
+    ensures { λ r. ⌜ r ≡ lineOf word ⌝ }
+{
+    if word < SIGN {
+        SIGN + word
+    } else {
+        SIGN - (word - SIGN)
+    }
+}
+
+// The word at a place on the line of doubles: +0 in the middle.
+pub fn word_on(place: u64) -> u64
+    ensures { λ r. ⌜ r ≡ wordOn place ⌝ }
+{
+    if place < SIGN {
+        SIGN + (SIGN - place) % SIGN
+    } else {
+        place - SIGN
+    }
 }

@@ -8,9 +8,13 @@ pub const ELEMENT_EDITION: u64 = 1;
 // The place of the centres: after the edition.
 pub const CENTRES_PLACE: usize = 8;
 
-// The most requests that a file may have.
+// The most states, and the most requests, that a file may have.
+pub const MOST_STATES: u16 = 500;
+
 pub const MOST_REQUESTS: u16 = 1500;
-// The words of a state's record: the number of its centre, its epoch, the three of its position, the three of its velocity.
+// The words of a state's record, and which they are: the number of its centre, its epoch, the three of its position, the three of its velocity.
+pub const STATE_WORDS: u16 = 8;
+
 pub const STATE_CENTRE: usize = 0;
 
 pub const STATE_EPOCH: usize = 1;
@@ -37,7 +41,7 @@ impl Section {
     {
         match self {
             Section::Centres => 16,
-            Section::States => 500,
+            Section::States => MOST_STATES,
             Section::Requests => MOST_REQUESTS,
         }
     }
@@ -48,7 +52,7 @@ impl Section {
     {
         match self {
             Section::Centres => 1,
-            Section::States => 8,
+            Section::States => STATE_WORDS,
             Section::Requests => 2,
         }
     }

@@ -13,6 +13,12 @@ use Rattle.kelubashi.proofs.kelubashi1_write.Kinds as write-kinds
 use Rattle.kelubashi.proofs.kelubashi1_write.Reads as write-reads
 use Rattle.kelubashi.proofs.kelubashi1_results.Kinds as results-kinds
 use Rattle.kelubashi.proofs.kelubashi1_results.Reads as results-reads
+use Rattle.kelubashi.proofs.kelubashi1_summary.Kinds as summary-kinds
+use Rattle.kelubashi.proofs.kelubashi1_summary.Reads as summary-reads
+use Rattle.kelubashi.proofs.kelubashi1_append.Kinds as append-kinds
+use Rattle.kelubashi.proofs.kelubashi1_append.Reads as append-reads
+use Rattle.kelubashi.proofs.kelubashi1_withdraw.Kinds as withdraw-kinds
+use Rattle.kelubashi.proofs.kelubashi1_withdraw.Reads as withdraw-reads
 
 pub root-one : OneAnswer 1 root-kinds.ps root-kinds.r root-reads.Post
 root-one κs a x y v w p q = (p .0 ∙ sym (q .0), λ i. (tt, ((p .1 ∙ sym (q .1)) i, tt)))
@@ -31,3 +37,14 @@ write-one κs a x y v w p q = (p .0 ∙ sym (q .0), λ i. (tt, (tt, (tt, ((p .1 
 
 pub results-one : OneAnswer 3 results-kinds.ps results-kinds.r results-reads.Post
 results-one κs a x y v w p q = (p .0 ∙ sym (q .0), λ i. (tt, ((p .1 .1 ∙ sym (q .1 .1)) i, ((p .1 .0 ∙ sym (q .1 .0)) i, tt))))
+
+pub summary-one : OneAnswer 3 summary-kinds.ps summary-kinds.r summary-reads.Post
+summary-one κs a x y v w p q = (p .0 ∙ sym (q .0), λ i. (tt, (tt, (tt, ((p .1 .1 ∙ sym (q .1 .1)) i, ((p .1 .0 ∙ sym (q .1 .0)) i, tt))))))
+
+pub append-one : OneAnswer 4 append-kinds.ps append-kinds.r append-reads.Post
+append-one κs a x y v w p q =
+    (p .0 ∙ sym (q .0), λ i. (tt, ((p .1 .1 .0 ∙ sym (q .1 .1 .0)) i, (tt, (tt, ((p .1 .1 .1 ∙ sym (q .1 .1 .1)) i, ((p .1 .0 ∙ sym (q .1 .0)) i, tt)))))))
+
+pub withdraw-one : OneAnswer 3 withdraw-kinds.ps withdraw-kinds.r withdraw-reads.Post
+withdraw-one κs a x y v w p q =
+    (p .0 ∙ sym (q .0), λ i. (tt, ((p .1 .1 .0 ∙ sym (q .1 .1 .0)) i, (tt, (tt, ((p .1 .1 .1 ∙ sym (q .1 .1 .1)) i, ((p .1 .0 ∙ sym (q .1 .0)) i, tt)))))))

@@ -14,6 +14,7 @@ use Rattle.files.specs.declared.Writing.{Writing}
 use Rattle.files.specs.declared.Writing.the-variants as writing
 use Rattle.files_results.specs.Results.{outcomeOf}
 use Rattle.files_results.specs.declared.Outcome.{Outcome}
+use Rattle.files_summary.specs.declared.changes.Change.{Change}
 
 -- What is returned, for an answer of n words and a run as it was handed in.
 abbrev pub returned : ℕ → List ℕ → ℕ → ℕ
@@ -46,6 +47,10 @@ writingWords (writing.Refused number place) = number ∷ place ∷ []
 -- The results' answer: number, then the length written or needed.
 abbrev pub outcomeWords : Outcome → List ℕ
 outcomeWords o = o .number ∷ o .size ∷ []
+
+-- The answer of a change of the states: number, then the states in use afterwards.
+abbrev pub changeWords : Change → List ℕ
+changeWords c = c .number ∷ c .count ∷ []
 
 -- The number of an answer is its first word.
 abbrev pub numberIn : List ℕ → ℕ

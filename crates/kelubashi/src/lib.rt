@@ -7,7 +7,9 @@ ghost use Rattle.states.specs.Call.{answerWords, propagateOf};
 ghost use Rattle.states.specs.WithPartials.{partialsOf, lentOf};
 ghost use Rattle.files_words.specs.Bytes.{put};
 ghost use Rattle.files_results.specs.Results.{outcomeOf, resultFile};
-ghost use Rattle.kelubashi.specs.Face.{returned, answerAfter, orbitWords, lentBehind, readWords, resultsWords, numberIn, writeNumber, writeAnswer, writeRoom};
+ghost use lib.ListN.{length};
+ghost use Rattle.files_summary.specs.Changes.{entryWidth, summaryRefusal, summaryList, appendBeside, appendRunBeside, withdrawBeside, withdrawRunBeside, settledWords};
+ghost use Rattle.kelubashi.specs.Face.{returned, answerAfter, orbitWords, lentBehind, readWords, resultsWords, numberIn, writeNumber, writeAnswer, writeRoom, changeWords};
 
 mod answers;
 
@@ -125,4 +127,71 @@ pub extern "C" fn kelubashi1_results(file: &[u8], room: &mut [u8], answer: &mut 
     let outcome = files_results::write_results(file, room);
     bits::copy_words(&[outcome.number, outcome.size as u64], answer);
     outcome.number
+}
+
+// The summary of all states, an entry of four words for each centre, to a lent list, and an answer run of two words.
+#[no_mangle]
+pub extern "C" fn kelubashi1_summary(
+    states: &[u64],
+    count: u64,
+    centres: u64,
+    list: &mut [u64],
+    answer: &mut [u64],
+) -> u64
+    ensures number { λ r. ⌜ r ≡ returned 2 (now (answer .entry)) (summaryRefusal (now (states .entry)) count centres (now (list .entry))) ⌝ }
+    ensures answer { λ _. ⌜ now (answer .exit) ≡ answerAfter 2 (now (answer .entry)) (summaryRefusal (now (states .entry)) count centres (now (list .entry)) ∷ count ∷ []) ⌝ }
+    ensures list { λ _. ⌜ now (list .exit) ≡ lentBehind 2 (now (answer .entry)) (now (list .entry)) (summaryList (now (states .entry)) count centres (now (list .entry))) ⌝ }
+{
+    if answer.len() != 2 {
+        return 60;
+    }
+    let number = files_summary::words::summary(list, states, count, centres);
+    bits::copy_words(&[number, count], answer);
+    number
+}
+
+// A state appended to those in use, and its centre's entry brought up to date, with an answer run of two words.
+#[no_mangle]
+pub extern "C" fn kelubashi1_append(
+    state: &[u64],
+    states: &mut [u64],
+    count: u64,
+    centres: u64,
+    list: &mut [u64],
+    answer: &mut [u64],
+) -> u64
+    ensures number { λ r. ⌜ r ≡ returned 2 (now (answer .entry)) (appendBeside entryWidth (length (now (list .entry))) (now (state .entry)) (now (states .entry)) count centres .number) ⌝ }
+    ensures answer { λ _. ⌜ now (answer .exit) ≡ answerAfter 2 (now (answer .entry)) (changeWords (appendBeside entryWidth (length (now (list .entry))) (now (state .entry)) (now (states .entry)) count centres)) ⌝ }
+    ensures states { λ _. ⌜ now (states .exit) ≡ lentBehind 2 (now (answer .entry)) (now (states .entry)) (appendRunBeside entryWidth (length (now (list .entry))) (now (state .entry)) (now (states .entry)) count centres) ⌝ }
+    ensures list { λ _. ⌜ now (list .exit) ≡ lentBehind 2 (now (answer .entry)) (now (list .entry)) (settledWords (now (list .entry)) (appendBeside entryWidth (length (now (list .entry))) (now (state .entry)) (now (states .entry)) count centres)) ⌝ }
+{
+    if answer.len() != 2 {
+        return 60;
+    }
+    let change = files_summary::words::append(list, state, states, count, centres);
+    bits::copy_words(&[change.number, change.count], answer);
+    change.number
+}
+
+// A state withdrawn from those in use, and its centre's entry brought up to date, with an answer run of two words.
+#[no_mangle]
+pub extern "C" fn kelubashi1_withdraw(
+    which: u64,
+    states: &mut [u64],
+    count: u64,
+    centres: u64,
+    list: &mut [u64],
+    answer: &mut [u64],
+) -> u64
+    ensures number { λ r. ⌜ r ≡ returned 2 (now (answer .entry)) (withdrawBeside entryWidth (length (now (list .entry))) which (now (states .entry)) count centres .number) ⌝ }
+    ensures answer { λ _. ⌜ now (answer .exit) ≡ answerAfter 2 (now (answer .entry)) (changeWords (withdrawBeside entryWidth (length (now (list .entry))) which (now (states .entry)) count centres)) ⌝ }
+    ensures states { λ _. ⌜ now (states .exit) ≡ lentBehind 2 (now (answer .entry)) (now (states .entry)) (withdrawRunBeside entryWidth (length (now (list .entry))) which (now (states .entry)) count centres) ⌝ }
+    ensures list { λ _. ⌜ now (list .exit) ≡ lentBehind 2 (now (answer .entry)) (now (list .entry)) (settledWords (now (list .entry)) (withdrawBeside entryWidth (length (now (list .entry))) which (now (states .entry)) count centres)) ⌝ }
+{
+    if answer.len() != 2 {
+        return 60;
+    }
+    let change = files_summary::words::withdraw(list, which, states, count, centres);
+    bits::copy_words(&[change.number, change.count], answer);
+    change.number
 }

@@ -1,0 +1,12 @@
+pub mod EntryLaws
+pub mod RefusalLaws
+pub mod PartLaws
+pub mod ChangeLaws
+pub mod WordLaws
+pub mod StateLaws
+pub mod AnewLaws
+pub mod RightLaws
+pub mod OneListLaws
+pub mod ExtremeLaws
+pub mod BackLaws
+pub mod OneAnswers

@@ -1,0 +1,51 @@
+-- One test after another.
+use mathlib.Core.Path.{ap, _∙_}
+use Prim.Native.Nat.{_*_}
+use borrow.Author.Needs.{needs}
+use lib.Dec.{eqb, leb}
+use Rattle.files_sections.specs.declared.sections.Section.the-variants.{States}
+use Rattle.files_sections.specs.Sections.{limitOf, widthOf}
+use Rattle.files_summary.specs.Changes.{refuse}
+use Rattle.files_summary.proofs.changes.lent_refusal.Statement.{statement}
+use Rattle.files_summary.proofs.changes.lent_refusal.Tie as tie
+
+cast-whole : tie.Need-cast-whole
+cast-whole c = search needs
+
+cast-whole-2 : tie.Need-cast-whole-2
+cast-whole-2 c = search needs
+
+mul-whole : tie.Need-mul-whole
+mul-whole c = search needs
+
+cast-few : tie.Need-cast-few
+cast-few c = search needs
+
+refuse-requires : tie.Need-refuse-requires
+refuse-requires c κs = search needs
+
+refuse-requires-2 : tie.Need-refuse-requires-2
+refuse-requires-2 c κs = search needs
+
+refuse-requires-3 : tie.Need-refuse-requires-3
+refuse-requires-3 c κs = search needs
+
+returns : tie.Need-returns
+returns c =
+    let a = c .before .before .before .args in
+    let whole = eqb (a .words) (limitOf States * widthOf States) in
+    let few = leb (a .count) (limitOf States) in
+    c .refuse3 .ensures ∙ ap (refuse whole 27) (c .before .refuse2 .ensures ∙ ap (refuse few 27) (c .before .before .refuse .ensures))
+
+pub lent-refusal-spec : {M : Type 1} → statement M
+lent-refusal-spec =
+    tie.close
+    (tie.spec
+    cast-whole
+    cast-whole-2
+    mul-whole
+    cast-few
+    refuse-requires
+    refuse-requires-2
+    refuse-requires-3
+    returns)

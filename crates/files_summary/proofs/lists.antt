@@ -1,0 +1,2 @@
+-- What the walks of `settle`, `append` and `withdraw` share.
+mod Settling

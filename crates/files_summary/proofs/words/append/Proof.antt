@@ -1,0 +1,44 @@
+-- The update by value, then its entry.
+use mathlib.Core.Path.{ap, _∙_}
+use borrow.Author.Needs.{needs}
+use lib.ListN.{length}
+use Rattle.files_summary.specs.Changes.{entryWidth, settledWords, appendOf, appendRun}
+use Rattle.files_summary.proofs.ChangeLaws.{within-append, has-place}
+use Rattle.files_summary.proofs.words.append.Statement.{statement}
+use Rattle.files_summary.proofs.words.append.Tie as tie
+
+one-each-requires : tie.Need-one-each-requires
+one-each-requires c κs = search needs
+
+append-state-requires : tie.Need-append-state-requires
+append-state-requires c κs = search needs
+
+settle-requires : tie.Need-settle-requires
+settle-requires c κs =
+    let made = c .before .before .before in
+    let one = made .before .before in
+    let a = one .before .before .before .before .args in
+    let listed = one .one-each .result in
+    has-place entryWidth (length (a .list .now)) (a .centres) (one .one-each .ensures) (appendOf (a .state .now) (a .states .now) (a .count) (a .centres) listed)
+    (within-append (a .state .now) (a .states .now) (a .count) (a .centres) listed) (made .append-state .ensures .0)
+
+same-length : tie.Need-same-length
+same-length c = search needs
+
+same-length-2 : tie.Need-same-length-2
+same-length-2 c = search needs
+
+returns : tie.Need-returns
+returns c =
+    let settled = c .before .before in
+    let made = settled .before .before .before .before in
+    let one = made .before .before in
+    let a = one .before .before .before .before .args in
+    let e = made .append-state .ensures in
+    let listed = one .one-each .ensures in
+    let change = e .0 ∙ ap (appendOf (a .state .now) (a .states .now) (a .count) (a .centres)) listed in
+    (change, (e .1 ∙ ap (appendRun (a .state .now) (a .states .now) (a .count) (a .centres)) listed, settled .settle .ensures ∙ ap (settledWords (a .list .now)) change))
+
+pub append-spec : {M : Type 1} → statement M
+append-spec =
+    tie.close (tie.spec one-each-requires append-state-requires settle-requires same-length same-length-2 returns)
