@@ -162,20 +162,21 @@ module _ (run words : List ℕ) (place : ℕ) (fits : place + length words ≤ l
 
 pub states-move : StatesMove
 unfolding appendedTo withdrawnFrom
-states-move run count =
-    (λ state one room.
-    let fits : count * widthOf States + length state ≤ length run = omega (arith, one) in
-    let end : (count + 1) * widthOf States ≡ count * widthOf States + length state = omega (arith, one) in
-    record {
-      behind-them = one-appended run state count one (omega arith);
-      before = untouched-before run state (count * widthOf States) fits;
-      behind = untouched-behind run state (count * widthOf States) fits ((count + 1) * widthOf States) end;
-    },
-    λ which there room.
-    let l = length-moved run count which there room in
-    let end : (count - 1) * widthOf States ≡ which * widthOf States + length (followers run count which) = omega (arith, l) in
-    record {
-      down-one = one-withdrawn run count which there room;
-      before = untouched-before run (followers run count which) (which * widthOf States) (fits run count which there room);
-      freed-and-behind = untouched-behind run (followers run count which) (which * widthOf States) (fits run count which there room) ((count - 1) * widthOf States) end;
-    })
+states-move run count = (
+  λ state one room.
+      let fits : count * widthOf States + length state ≤ length run = omega (arith, one) in
+      let end : (count + 1) * widthOf States ≡ count * widthOf States + length state = omega (arith, one) in
+      record {
+        behind-them = one-appended run state count one (omega arith);
+        before = untouched-before run state (count * widthOf States) fits;
+        behind = untouched-behind run state (count * widthOf States) fits ((count + 1) * widthOf States) end;
+      },
+  λ which there room.
+      let l = length-moved run count which there room in
+      let end : (count - 1) * widthOf States ≡ which * widthOf States + length (followers run count which) = omega (arith, l) in
+      record {
+        down-one = one-withdrawn run count which there room;
+        before = untouched-before run (followers run count which) (which * widthOf States) (fits run count which there room);
+        freed-and-behind = untouched-behind run (followers run count which) (which * widthOf States) (fits run count which there room) ((count - 1) * widthOf States) end;
+      },
+)
