@@ -1,6 +1,6 @@
 /*
-**  roster.h: the fixed set of the rows about the summary: 16 centres and 480 states in use, those of each centre at epochs before and
-**  after zero, and a list for them.
+**  roster.h: the rows about the summary: their fixed set, 16 centres and 480 states in use, those of each centre at epochs before and after
+**  zero, with a list for them; and what a row's program does with it.
 */
 #ifndef ROSTER_H
 #define ROSTER_H
@@ -10,13 +10,14 @@
 enum { IN_USE = 480, LIST = KELUBASHI_MOST_CENTRES * KELUBASHI_ENTRY };
 
 struct roster {
-    uint64_t states[KELUBASHI_STATES], list[LIST], answer[KELUBASHI_CHANGE_ANSWER];
+    uint64_t states[KELUBASHI_STATE_RUN], list[LIST], answer[KELUBASHI_CHANGE_ANSWER];
 };
 
-/* The states as they are at the start of a pass, and the list of nothing. */
-void roster_fill(struct roster *roster);
-
-/* Whether all words of two are the same. */
-int rosters_alike(const struct roster *one, const struct roster *two);
+/*
+**  The program of a row that makes one call a pass, on the set as it was at first. Of the columns, whose last is empty calls, all others have to leave the
+**  same states, list and answer.
+*/
+int roster_run(const char *name, const char *const *columns, uint64_t (*ask)(size_t column, struct roster *roster),
+               int count, char **words);
 
 #endif

@@ -15,12 +15,12 @@ enum { LIST = KELUBASHI_MOST_CENTRES * KELUBASHI_ENTRY };   /* words of the long
 /* The library's list of a file, an entry for each centre. False where it gives none, which is then said. */
 static int make_list(const struct element_file *elements, uint64_t *list)
 {
-    static uint64_t states[KELUBASHI_STATES];
+    static uint64_t states[KELUBASHI_STATE_RUN];
     uint64_t answer[KELUBASHI_CHANGE_ANSWER] = { 0, 0 };
     uint64_t refusal;
 
     copy_states(elements, states);
-    refusal = kelubashi1_summary(states, KELUBASHI_STATES, state_count(elements), centre_count(elements), list,
+    refusal = kelubashi1_summary(states, KELUBASHI_STATE_RUN, state_count(elements), centre_count(elements), list,
                                  centre_count(elements) * KELUBASHI_ENTRY, answer, KELUBASHI_CHANGE_ANSWER);
     if (refusal != 0)
         say_refused(refusal, "%s: the library's summary is", elements->name);

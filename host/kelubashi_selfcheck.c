@@ -399,7 +399,7 @@ static const uint64_t RECORDS[][KELUBASHI_STATE] = {
     { CENTRES, 0, 41, 42, 43, 44, 45, 46 }
 };
 
-static uint64_t states[KELUBASHI_STATES], list[LISTED];
+static uint64_t states[KELUBASHI_STATE_RUN], list[LISTED];
 
 enum asked { APPEND, WITHDRAW, SUMMARY };
 
@@ -407,23 +407,26 @@ static const struct change {
     const char *name;
     enum asked asked;
     uint64_t which;                                 /* of RECORDS, or of the states in use */
-    uint64_t words, right[KELUBASHI_CHANGE_ANSWER]; /* of the run; the first of the answer is the status too */
+    size_t words, listed;                           /* of the run, and of the list */
+    uint64_t right[KELUBASHI_CHANGE_ANSWER];        /* the first is the status too */
     uint64_t entries[LISTED];
     int records[LOOKED_AT];                         /* of RECORDS, or -1 where the words are those lent */
 } CHANGES[] = {
-    { "a state at -0 s appended", APPEND, AT_ZERO, 4000, { 0, 1 }, { 1, 0, 0, 0, LENT, LENT, LENT, LENT }, { AT_ZERO, -1, -1, -1 } },
-    { "a state at a NaN appended", APPEND, AT_NAN, 4000, { 0, 2 }, { 1, 0, 0, 0, 0, 1, 0, 0 }, { AT_ZERO, AT_NAN, -1, -1 } },
-    { "an infinite epoch appended", APPEND, AT_MINUS_INFINITY, 4000, { 0, 3 },
+    { "a state at -0 s appended", APPEND, AT_ZERO, 4000, LISTED, { 0, 1 }, { 1, 0, 0, 0, LENT, LENT, LENT, LENT }, { AT_ZERO, -1, -1, -1 } },
+    { "a state at a NaN appended", APPEND, AT_NAN, 4000, LISTED, { 0, 2 }, { 1, 0, 0, 0, 0, 1, 0, 0 }, { AT_ZERO, AT_NAN, -1, -1 } },
+    { "an infinite epoch appended", APPEND, AT_MINUS_INFINITY, 4000, LISTED, { 0, 3 },
       { 2, 0, MINUS_INFINITY, 0, 0, 1, 0, 0 }, { AT_ZERO, AT_NAN, AT_MINUS_INFINITY, -1 } },
-    { "a state of no centre", APPEND, NO_CENTRE, 4000, { 24, 3 },
+    { "a state of no centre", APPEND, NO_CENTRE, 4000, LISTED, { 24, 3 },
       { 2, 0, MINUS_INFINITY, 0, 0, 1, 0, 0 }, { AT_ZERO, AT_NAN, AT_MINUS_INFINITY, -1 } },
-    { "the first state withdrawn", WITHDRAW, 0, 4000, { 0, 2 },
+    { "the first state withdrawn", WITHDRAW, 0, 4000, LISTED, { 0, 2 },
       { 1, 0, MINUS_INFINITY, MINUS_INFINITY, 0, 1, 0, 0 }, { AT_NAN, AT_MINUS_INFINITY, AT_MINUS_INFINITY, -1 } },
-    { "a state that is not there withdrawn", WITHDRAW, 2, 4000, { 42, 2 },
+    { "a state that is not there withdrawn", WITHDRAW, 2, 4000, LISTED, { 42, 2 },
       { 1, 0, MINUS_INFINITY, MINUS_INFINITY, 0, 1, 0, 0 }, { AT_NAN, AT_MINUS_INFINITY, AT_MINUS_INFINITY, -1 } },
-    { "a summary of a run a word short", SUMMARY, 0, 3999, { 27, 2 },
+    { "a summary of a run a word short", SUMMARY, 0, 3999, LISTED, { 27, 2 },
       { LENT, LENT, LENT, LENT, LENT, LENT, LENT, LENT }, { AT_NAN, AT_MINUS_INFINITY, AT_MINUS_INFINITY, -1 } },
-    { "a summary", SUMMARY, 0, 4000, { 0, 2 },
+    { "a summary to a list a word short", SUMMARY, 0, 4000, LISTED - 1, { 41, 2 },
+      { LENT, LENT, LENT, LENT, LENT, LENT, LENT, LENT }, { AT_NAN, AT_MINUS_INFINITY, AT_MINUS_INFINITY, -1 } },
+    { "a summary", SUMMARY, 0, 4000, LISTED, { 0, 2 },
       { 1, 0, MINUS_INFINITY, MINUS_INFINITY, 0, 1, 0, 0 }, { AT_NAN, AT_MINUS_INFINITY, AT_MINUS_INFINITY, -1 } }
 };
 
@@ -439,14 +442,14 @@ static uint64_t ask(const struct change *at, uint64_t count, uint64_t *answer)
 {
     switch (at->asked) {
     case APPEND:
-        return kelubashi1_append(RECORDS[at->which], KELUBASHI_STATE, states, (size_t)at->words, count, CENTRES,
-                                 list, LISTED, answer, KELUBASHI_CHANGE_ANSWER);
+        return kelubashi1_append(RECORDS[at->which], KELUBASHI_STATE, states, at->words, count, CENTRES,
+                                 list, at->listed, answer, KELUBASHI_CHANGE_ANSWER);
     case WITHDRAW:
-        return kelubashi1_withdraw(at->which, states, (size_t)at->words, count, CENTRES, list, LISTED, answer,
+        return kelubashi1_withdraw(at->which, states, at->words, count, CENTRES, list, at->listed, answer,
                                    KELUBASHI_CHANGE_ANSWER);
     default:
         lend(list, LISTED);
-        return kelubashi1_summary(states, (size_t)at->words, count, CENTRES, list, LISTED, answer,
+        return kelubashi1_summary(states, at->words, count, CENTRES, list, at->listed, answer,
                                   KELUBASHI_CHANGE_ANSWER);
     }
 }
@@ -486,7 +489,7 @@ static const char *changes(void)
     uint64_t count = 0;
     size_t i;
 
-    lend(states, KELUBASHI_STATES);
+    lend(states, KELUBASHI_STATE_RUN);
     lend(list, LISTED);
     for (i = 0; wrong == NULL && i < sizeof CHANGES / sizeof CHANGES[0]; i++) {
         wrong = change(&CHANGES[i], count);

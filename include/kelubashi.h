@@ -301,16 +301,17 @@ uint64_t kelubashi1_results(const uint8_t *file, size_t length, uint8_t *room, s
 **  earliest and latest epoch, without reading all states again.
 **
 **  The states stand in a run of 500 records, as in an element file, the first of which are in use; how
-**  many is a count that the program keeps. An entry has these four words:
+**  many is a count that the program keeps. A right list stays right through every change. For another
+**  number of centres it is worked out anew, with kelubashi1_summary. An entry has these four words:
 */
 enum {
-    KELUBASHI_ENTRY_STATES = 0,     /* states whose epoch is a number; infinite ones are */
+    KELUBASHI_ENTRY_STATES = 0,     /* states whose epoch is a number, infinite ones included */
     KELUBASHI_ENTRY_NANS = 1,       /* states whose epoch is a NaN */
     KELUBASHI_ENTRY_EARLIEST = 2,   /* the word of the earliest epoch, s; +0 where the first word is 0 */
     KELUBASHI_ENTRY_LATEST = 3,     /* the word of the latest */
 
     KELUBASHI_ENTRY = 4,            /* words of an entry */
-    KELUBASHI_STATES = 4000,        /* words of the run: KELUBASHI_STATE for each of KELUBASHI_MOST_STATES */
+    KELUBASHI_STATE_RUN = 4000,        /* words of the run: KELUBASHI_STATE for each of KELUBASHI_MOST_STATES */
 
     KELUBASHI_CHANGE_REFUSAL = 0,   /* the status once more */
     KELUBASHI_CHANGE_COUNT = 1,     /* states in use after the call; under a refusal the count given */
@@ -322,7 +323,7 @@ enum {
 **  The whole list, worked out afresh: what a program begins with after it has read a file.
 **
 **  Given:
-**     states    the run of states, KELUBASHI_STATES words; any words may be given
+**     states    the run of states, KELUBASHI_STATE_RUN words; any words may be given
 **     words     its count of words
 **     count     the states in use, the first of the run
 **     centres   the centres: any number, and 16 at most in an element file
@@ -351,13 +352,15 @@ uint64_t kelubashi1_summary(const uint64_t *states, size_t words, uint64_t count
 **     r         the count of record
 **     states .. n   as for kelubashi1_summary
 **
-**  Returned, with status 0; otherwise both runs are left as they were:
+**  Returned, the two runs with status 0; otherwise both are left as they were:
 **     states    the record as that of the number count; all other words are left
 **     list      the entry of its centre, worked out from the states as they now stand, whatever it
 **               was; all other entries are left
-**     answer    refusal, then the states in use: count + 1
+**     answer    refusal, then the states in use: count + 1, or under a refusal count
 **
-**  Refusals: the first that applies in the order 60, 27, 41, 24, 42.
+**  record must not lie in states.
+**
+**  Refusals: the first that applies in the order 60, 27, 41, 24, 42. An r other than 8 is 27.
 */
 KELUBASHI_STATUS
 uint64_t kelubashi1_append(const uint64_t *record, size_t r, uint64_t *states, size_t words, uint64_t count,
@@ -370,14 +373,17 @@ uint64_t kelubashi1_append(const uint64_t *record, size_t r, uint64_t *states, s
 **     which     the number of the state, from 0
 **     states .. n   as for kelubashi1_summary
 **
-**  Returned, with status 0; otherwise both runs are left as they were:
+**  Returned, the two runs with status 0; otherwise both are left as they were:
 **     states    the states behind it one record lower; the last record, which is free then, keeps its
-**               words, and all others are left. Requests that name states by number are not changed:
-**               the numbers above which have become one less.
+**               words, and all others are left
 **     list      as for kelubashi1_append, for the centre of the state withdrawn
-**     answer    refusal, then the states in use: count - 1
+**     answer    refusal, then the states in use: count - 1, or under a refusal count
 **
-**  Refusals: the first that applies in the order 60, 27, 41, 24, 42.
+**  Requests are not changed. The states behind the one withdrawn are now numbered one less, so that a
+**  request for its number now means its follower: correct requests before they are used.
+**
+**  Refusals: the first that applies in the order 60, 27, 41, 24, 42. 24 is said of the centre of the state
+**  to withdraw; where there is no such state, it is 42.
 */
 KELUBASHI_STATUS
 uint64_t kelubashi1_withdraw(uint64_t which, uint64_t *states, size_t words, uint64_t count, uint64_t centres,
@@ -506,11 +512,11 @@ static inline const struct kelubashi_refusal *kelubashi_refusal_of(uint64_t numb
               "cut the file there, or correct a count that is too small" },
         { 26, "the room is too small for the file",
               "lend as many bytes as the answer says, and call again" },
-        { 27, "a run is not whole records, or a run of states not 500 with at most 500 in use",
-              "give words as the count: 8 for each state, 2 for each request, and 4,000 for a run of states" },
+        { 27, "a run is not whole records; or of a run of states: not 500, more than 500 in use, or not one to append",
+              "give words as the count: 8 for each state, 2 for each request, 4,000 for a run of states, 8 for one to append" },
         { 41, "the list does not have one entry for each centre",
               "lend 4 words for each centre, and give as many as their count" },
-        { 42, "500 states are in use already, or the state to withdraw is not",
+        { 42, "500 states are in use already, or the state to withdraw is not in use",
               "withdraw a state first, or give the number of one that is there, from 0" },
         { 60, "the answer run is not as long as the answer; nothing is written",
               "lend 15 words (1 for the root, 8 to read, 2 for the other calls with files or states), and give their count" },

@@ -5,8 +5,6 @@
 #include "lent.h"
 #include "second/second.h"
 
-#include <inttypes.h>
-#include <stdio.h>
 #include <string.h>
 
 static uint64_t read_seen[64], write_seen[64], results_seen[64];
@@ -164,25 +162,11 @@ void ask_sections(const char *family, const struct sections *s)
         differs("what was written is not read");
 }
 
-static int tell_numbers(const char *what, const uint64_t *seen, const int *numbers, size_t count)
-{
-    int missed = 0;
-    size_t i;
-
-    printf("  numbers of %s:", what);
-    for (i = 0; i < count; i++) {
-        printf("%s %d %" PRIu64, i ? "," : "", numbers[i], seen[numbers[i]]);
-        missed += seen[numbers[i]] == 0;
-    }
-    printf("\n");
-    return missed;
-}
-
 int ask_file_tell(void)
 {
     static const int reads[] = { 0, 21, 22, 23, 24, 25 }, writes[] = { 0, 23, 24, 26, 27 }, results[] = { 0, 26 };
-    int missed = tell_numbers("read", read_seen, reads, sizeof reads / sizeof reads[0]);
+    int missed = numbers_tell("read", read_seen, reads, sizeof reads / sizeof reads[0]);
 
-    missed += tell_numbers("write", write_seen, writes, sizeof writes / sizeof writes[0]);
-    return missed + tell_numbers("results", results_seen, results, sizeof results / sizeof results[0]);
+    missed += numbers_tell("write", write_seen, writes, sizeof writes / sizeof writes[0]);
+    return missed + numbers_tell("results", results_seen, results, sizeof results / sizeof results[0]);
 }

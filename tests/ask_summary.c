@@ -7,8 +7,6 @@
 #include "rules_summary.h"
 #include "second/second.h"
 
-#include <inttypes.h>
-#include <stdio.h>
 #include <string.h>
 
 #define RECORD(h, m) lent_run((h)->record, (m)->r), (m)->r
@@ -147,26 +145,12 @@ void ask_roster(const char *family, const struct roster *r)
         make_call(&at, &r->call[i]);
 }
 
-static int tell_numbers(const char *what, const uint64_t *met, const int *numbers, size_t count)
-{
-    int missed = 0;
-    size_t i;
-
-    printf("  numbers of %s:", what);
-    for (i = 0; i < count; i++) {
-        printf("%s %d %" PRIu64, i ? "," : "", numbers[i], met[numbers[i]]);
-        missed += met[numbers[i]] == 0;
-    }
-    printf("\n");
-    return missed;
-}
-
 int ask_roster_tell(void)
 {
     static const int numbers[] = { 0, 27, 41, 60, 24, 42 };     /* the last two not of a summary */
-    int missed = tell_numbers("summary", seen[SUMMARY], numbers, 4);
+    int missed = numbers_tell("summary", seen[SUMMARY], numbers, 4);
 
-    missed += tell_numbers("append", seen[APPEND], numbers, 6);
-    missed += tell_numbers("withdraw", seen[WITHDRAW], numbers, 6);
+    missed += numbers_tell("append", seen[APPEND], numbers, 6);
+    missed += numbers_tell("withdraw", seen[WITHDRAW], numbers, 6);
     return missed + aims_summary_tell();
 }

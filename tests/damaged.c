@@ -2,9 +2,6 @@
 #include "drive.h"
 #include "sections.h"
 
-#include <inttypes.h>
-#include <stdio.h>
-
 /* The small file of the lists: 2 centres, 2 states and 3 requests. */
 #define SMALL_WORDS (4 + 2 + 2 * STATE + 3 * REQUEST)
 
@@ -136,49 +133,34 @@ static void small_words(struct file *f, uint64_t turn)
         add_word(f, any_below(4));
 }
 
-static const struct file_family families[] = {
-    { "sound files", 16, NULL, sound_file },
-    { "cuts", 10, NULL, cut },
-    { "bytes behind", 6, NULL, longer },
-    { "one word replaced", 16, NULL, replaced },
-    { "two words replaced", 8, NULL, replaced_twice },
-    { "counts replaced", 6, NULL, wrong_counts },
-    { "numbers out of range", 8, NULL, wrong_file_numbers },
-    { "counts at the limits", 1, NULL, limits_file },
-    { "any bytes", 6, NULL, any_bytes },
-    { "small words", 6, NULL, small_words },
-    { "sound sections", 10, sound, NULL },
-    { "runs of odd lengths", 6, odd_runs, NULL },
-    { "numbers to write out of range", 6, wrong_numbers, NULL },
-    { "counts to write at the limits", 1, limits, NULL },
+static const struct file_family rows[] = {
+    { { "sound files", 16 }, NULL, sound_file },
+    { { "cuts", 10 }, NULL, cut },
+    { { "bytes behind", 6 }, NULL, longer },
+    { { "one word replaced", 16 }, NULL, replaced },
+    { { "two words replaced", 8 }, NULL, replaced_twice },
+    { { "counts replaced", 6 }, NULL, wrong_counts },
+    { { "numbers out of range", 8 }, NULL, wrong_file_numbers },
+    { { "counts at the limits", 1 }, NULL, limits_file },
+    { { "any bytes", 6 }, NULL, any_bytes },
+    { { "small words", 6 }, NULL, small_words },
+    { { "sound sections", 10 }, sound, NULL },
+    { { "runs of odd lengths", 6 }, odd_runs, NULL },
+    { { "numbers to write out of range", 6 }, wrong_numbers, NULL },
+    { { "counts to write at the limits", 1 }, limits, NULL },
 };
 
-#define FAMILIES (sizeof families / sizeof families[0])
+#define FAMILIES (sizeof rows / sizeof rows[0])
 
 static uint64_t seen[FAMILIES];
+static const struct families families = { rows, sizeof rows[0], FAMILIES, seen };
 
 const struct file_family *file_family(uint64_t number, uint64_t *turn)
 {
-    static uint64_t shares;
-    uint64_t rest;
-    size_t i;
-
-    if (shares == 0)
-        for (i = 0; i < FAMILIES; i++)
-            shares += families[i].share;
-    rest = number % shares;
-    for (i = 0; rest >= families[i].share; i++)
-        rest -= families[i].share;
-    *turn = number / shares * families[i].share + rest;
-    seen[i]++;
-    return &families[i];
+    return &rows[family_of(&families, number, turn)];
 }
 
 void file_families_tell(void)
 {
-    size_t i;
-
-    for (i = 0; i < FAMILIES; i++)
-        printf("%s %s %" PRIu64, i ? "," : " ", families[i].name, seen[i]);
-    printf("\n");
+    families_tell(&families);
 }

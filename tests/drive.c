@@ -159,3 +159,58 @@ int drive_all(void (*compare)(uint64_t number), int (*tell)(void), const char *h
     }
     return EXIT_SUCCESS;
 }
+
+/* ---- families, numbers and words ---- */
+
+static const struct family *row_of(const struct families *families, size_t i)
+{
+    return (const struct family *)(const void *)((const char *)families->rows + i * families->width);
+}
+
+size_t family_of(const struct families *families, uint64_t number, uint64_t *turn)
+{
+    uint64_t shares = 0, rest;
+    size_t i;
+
+    for (i = 0; i < families->count; i++)
+        shares += row_of(families, i)->share;
+    rest = number % shares;
+    for (i = 0; rest >= row_of(families, i)->share; i++)
+        rest -= row_of(families, i)->share;
+    *turn = number / shares * row_of(families, i)->share + rest;
+    families->seen[i]++;
+    return i;
+}
+
+void families_tell(const struct families *families)
+{
+    size_t i;
+
+    for (i = 0; i < families->count; i++)
+        printf("%s %s %" PRIu64, i ? "," : " ", row_of(families, i)->name, families->seen[i]);
+    printf("\n");
+}
+
+int numbers_tell(const char *what, const uint64_t *met, const int *numbers, size_t count)
+{
+    int missed = 0;
+    size_t i;
+
+    printf("  numbers of %s:", what);
+    for (i = 0; i < count; i++) {
+        printf("%s %d %" PRIu64, i ? "," : "", numbers[i], met[numbers[i]]);
+        missed += met[numbers[i]] == 0;
+    }
+    printf("\n");
+    return missed;
+}
+
+void words_tell(const char *name, const uint64_t *run, size_t words)
+{
+    size_t i;
+
+    printf("  %s, %zu words:", name, words);
+    for (i = 0; i < words; i++)
+        printf(" %016" PRIX64, run[i]);
+    printf("\n");
+}

@@ -10,6 +10,7 @@
 #ifndef DRIVE_H
 #define DRIVE_H
 
+#include <stddef.h>
 #include <stdint.h>
 
 /*
@@ -37,6 +38,31 @@ void drive_found(const char *what, const char *family);
 
 /* After the lines that tell what differs: the command that repeats it; ends the program. */
 void drive_differs(void);
+
+/* A family of inputs. Each row of a table of families begins with one. */
+struct family {
+    const char *name;
+    unsigned share;     /* of every hundred inputs or so */
+};
+
+struct families {
+    const void *rows;
+    size_t width, count;     /* bytes of a row, and rows */
+    uint64_t *seen;     /* inputs that each was asked for */
+};
+
+/* The row of an input, which goes by the input's number, so that every run of some length has all families; and the
+   input's turn among those of its family, so that a list is gone through in order. */
+size_t family_of(const struct families *families, uint64_t number, uint64_t *turn);
+
+/* Prints how many inputs each was asked for. */
+void families_tell(const struct families *families);
+
+/* Prints how often each number was met, of the numbers that a call may give; answers how many never were. */
+int numbers_tell(const char *what, const uint64_t *met, const int *numbers, size_t count);
+
+/* Prints a run of words, in full. */
+void words_tell(const char *name, const uint64_t *run, size_t words);
 
 /* Begins the sequence of words anew, from this one. */
 void draw_from(uint64_t word);

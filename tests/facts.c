@@ -39,7 +39,7 @@ static void fail(const char *what)
 static void ask(const double *g, struct results *r)
 {
     uint64_t w[8], state[KELUBASHI_STATE] = { 0 }, request[KELUBASHI_REQUEST] = { 0, 0 }, refusals;
-    uint64_t states[KELUBASHI_STATES] = { 0 };
+    uint64_t states[KELUBASHI_STATE_RUN] = { 0 };
     int i;
 
     memset(r, 0, sizeof *r);
@@ -55,9 +55,9 @@ static void ask(const double *g, struct results *r)
     refusals += kelubashi1_write(w, 1, state, KELUBASHI_STATE, request, KELUBASHI_REQUEST, r->file, sizeof r->file, r->written, 2);
     refusals += kelubashi1_read(r->file, 120, r->read, KELUBASHI_READ_ANSWER);
     refusals += kelubashi1_results(r->file, 120, r->results, sizeof r->results, r->answered, 2);
-    refusals += kelubashi1_append(state, KELUBASHI_STATE, states, KELUBASHI_STATES, 1, 1, r->list, KELUBASHI_ENTRY, r->changed, 2);
-    refusals += kelubashi1_withdraw(0, states, KELUBASHI_STATES, 2, 1, r->list, KELUBASHI_ENTRY, r->changed + 2, 2);
-    refusals += kelubashi1_summary(states, KELUBASHI_STATES, 1, 1, r->list, KELUBASHI_ENTRY, r->changed + 4, 2);
+    refusals += kelubashi1_append(state, KELUBASHI_STATE, states, KELUBASHI_STATE_RUN, 1, 1, r->list, KELUBASHI_ENTRY, r->changed, 2);
+    refusals += kelubashi1_withdraw(0, states, KELUBASHI_STATE_RUN, 2, 1, r->list, KELUBASHI_ENTRY, r->changed + 2, 2);
+    refusals += kelubashi1_summary(states, KELUBASHI_STATE_RUN, 1, 1, r->list, KELUBASHI_ENTRY, r->changed + 4, 2);
     r->root ^= refusals << 52;      /* every status is a part of what is compared */
 }
 

@@ -22,10 +22,10 @@ static void compare_one(uint64_t number)
 
     if (family->file != NULL) {
         family->file(&file, turn);
-        ask_file(family->name, &file);
+        ask_file(family->its.name, &file);
     } else {
         family->sections(&sections, turn);
-        ask_sections(family->name, &sections);
+        ask_sections(family->its.name, &sections);
     }
 }
 

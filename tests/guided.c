@@ -86,7 +86,7 @@ static const char *fresh_state(void)
     kind = STATES;
     family->make(words);
     pack_state(&input, words);
-    return family->name;
+    return family->its.name;
 }
 
 static const char *fresh_file(void)
@@ -102,7 +102,7 @@ static const char *fresh_file(void)
         family->sections(&sections, turn);
         pack_sections(&input, &sections);
     }
-    return family->name;
+    return family->its.name;
 }
 
 static const char *fresh_roster(void)
@@ -113,7 +113,7 @@ static const char *fresh_roster(void)
 
     family->make(&roster, turn);
     pack_roster(&input, &roster);
-    return family->name;
+    return family->its.name;
 }
 
 static void compare_one(uint64_t number)

@@ -102,16 +102,6 @@ uint64_t *lent_run(uint64_t *held, size_t length)
 
 /* ---- telling ---- */
 
-static void print_words(const char *name, const uint64_t *run, size_t words)
-{
-    size_t i;
-
-    printf("  %s, %zu words:", name, words);
-    for (i = 0; i < words; i++)
-        printf(" %016" PRIX64, run[i]);
-    printf("\n");
-}
-
 /* In full: a comparison may have no other way to tell it. */
 static void print_roster(void)
 {
@@ -121,11 +111,11 @@ static void print_roster(void)
 
     printf("  the roster: count %" PRIu64 ", centres %" PRIu64 ", fill %016" PRIX64 "\n", r->count, r->centres,
            r->fill);
-    print_words("states", r->states, STATE * r->records);
-    print_words("list", r->list, r->list_words);
+    words_tell("states", r->states, STATE * r->records);
+    words_tell("list", r->list, r->list_words);
     for (i = 0; i < r->calls; i++) {
         memcpy(words, &r->call[i], sizeof words);
-        print_words("call", words, CALL_WORDS);
+        words_tell("call", words, CALL_WORDS);
     }
 }
 
@@ -138,7 +128,7 @@ static void print_call(void)
     printf("  call %" PRIu64 ", %s: which %" PRIu64 ", r %zu, words %zu, count %" PRIu64 ", centres %" PRIu64
            ", k %zu, n %zu\n",
            calls_made, names[m->name], m->which, m->r, m->words, m->count, m->centres, m->k, m->n);
-    print_words("its record", m->record, STATE);
+    words_tell("its record", m->record, STATE);
 }
 
 static void print_first(const char *name, const uint64_t *library, const uint64_t *second, const uint64_t *was,

@@ -4,11 +4,12 @@
 #ifndef INPUTS_H
 #define INPUTS_H
 
+#include "drive.h"
+
 #include <stdint.h>
 
 struct state_family {
-    const char *name;
-    unsigned share;     /* of every hundred inputs or so */
+    struct family its;
     int aimed;     /* whether its aims are looked at */
     void (*make)(uint64_t *words);
 };

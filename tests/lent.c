@@ -51,16 +51,6 @@ static void print_bytes(const uint8_t *bytes, size_t length, size_t most)
     printf("%s\n", length > most ? " and more" : "");
 }
 
-static void print_run(const char *name, const uint64_t *run, size_t words)
-{
-    size_t i;
-
-    printf("  %s, %zu words:", name, words);
-    for (i = 0; i < words; i++)
-        printf(" %016" PRIX64, run[i]);
-    printf("\n");
-}
-
 /* In full: a comparison may have no other way to tell it. */
 static void print_input(void)
 {
@@ -69,9 +59,9 @@ static void print_input(void)
         print_bytes(its_file->bytes, its_file->length, its_file->length);
         return;
     }
-    print_run("centres", its_sections->centres, its_sections->centre_words);
-    print_run("states", its_sections->states, its_sections->state_words);
-    print_run("requests", its_sections->requests, its_sections->request_words);
+    words_tell("centres", its_sections->centres, its_sections->centre_words);
+    words_tell("states", its_sections->states, its_sections->state_words);
+    words_tell("requests", its_sections->requests, its_sections->request_words);
 }
 
 static void print_given(const char *whose, const struct given *g, size_t from)

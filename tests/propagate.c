@@ -22,7 +22,7 @@ static void compare_one(uint64_t number)
     struct asked asked;
 
     family->make(words);
-    asked = ask_state(family->name, words, number);
+    asked = ask_state(family->its.name, words, number);
     if (asked.points > most_points)
         most_points = asked.points;
     if (family->aimed && one_in(4))     /* a part of them: this repeats the search */

@@ -5,9 +5,6 @@
 #include "records.h"
 #include "second/second.h"
 
-#include <inttypes.h>
-#include <stdio.h>
-
 #define WRONG 8     /* one call in so many, in most families */
 
 /* ---- states ---- */
@@ -178,48 +175,33 @@ static void wrapped_centres(struct roster *r, uint64_t turn)
     r->centres = one_in(3) ? any_word() : r->centres | (1 + any_below(3)) << 62;
 }
 
-static const struct roster_family families[] = {
-    { "sound", 20, sound_roster },
-    { "small", 14, small_roster },
-    { "special epochs", 16, special_epochs },
-    { "centres out of range", 10, bad_centres },
-    { "wrong entries", 8, wrong_entries },
-    { "any list", 6, any_list },
-    { "any words", 5, any_section },
-    { "full section", 4, full_section },
-    { "many states", 2, many_states },
-    { "no centres", 3, no_centres },
-    { "many centres", 2, many_centres },
-    { "wrong lengths", 8, wrong_lengths },
-    { "wrapped centres", 2, wrapped_centres },
+static const struct roster_family rows[] = {
+    { { "sound", 20 }, sound_roster },
+    { { "small", 14 }, small_roster },
+    { { "special epochs", 16 }, special_epochs },
+    { { "centres out of range", 10 }, bad_centres },
+    { { "wrong entries", 8 }, wrong_entries },
+    { { "any list", 6 }, any_list },
+    { { "any words", 5 }, any_section },
+    { { "full section", 4 }, full_section },
+    { { "many states", 2 }, many_states },
+    { { "no centres", 3 }, no_centres },
+    { { "many centres", 2 }, many_centres },
+    { { "wrong lengths", 8 }, wrong_lengths },
+    { { "wrapped centres", 2 }, wrapped_centres },
 };
 
-#define FAMILIES (sizeof families / sizeof families[0])
+#define FAMILIES (sizeof rows / sizeof rows[0])
 
 static uint64_t seen[FAMILIES];
+static const struct families families = { rows, sizeof rows[0], FAMILIES, seen };
 
 const struct roster_family *roster_family(uint64_t number, uint64_t *turn)
 {
-    static uint64_t shares;
-    uint64_t rest;
-    size_t i;
-
-    if (shares == 0)
-        for (i = 0; i < FAMILIES; i++)
-            shares += families[i].share;
-    rest = number % shares;
-    for (i = 0; rest >= families[i].share; i++)
-        rest -= families[i].share;
-    *turn = number / shares * families[i].share + rest;
-    seen[i]++;
-    return &families[i];
+    return &rows[family_of(&families, number, turn)];
 }
 
 void roster_families_tell(void)
 {
-    size_t i;
-
-    for (i = 0; i < FAMILIES; i++)
-        printf("%s %s %" PRIu64, i ? "," : " ", families[i].name, seen[i]);
-    printf("\n");
+    families_tell(&families);
 }

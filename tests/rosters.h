@@ -39,8 +39,7 @@ struct roster {
 
 /* A family makes a roster; the turn counts its inputs, so that a list is gone through in order. */
 struct roster_family {
-    const char *name;
-    unsigned share;     /* of every hundred inputs or so */
+    struct family its;
     void (*make)(struct roster *roster, uint64_t turn);
 };
 

@@ -7,6 +7,8 @@
 #ifndef SECTIONS_H
 #define SECTIONS_H
 
+#include "drive.h"
+
 #include <stddef.h>
 #include <stdint.h>
 
@@ -32,8 +34,7 @@ struct file {
 /* A family makes sections, for the writer, or a file, for the reader and the results; the turn counts
    its inputs, so that a list is gone through in order. */
 struct file_family {
-    const char *name;
-    unsigned share;     /* of every hundred inputs or so */
+    struct family its;
     void (*sections)(struct sections *sections, uint64_t turn);
     void (*file)(struct file *file, uint64_t turn);
 };

@@ -21,7 +21,7 @@ enum fault {
     WRITE_HIGHEST_FIRST, WRITE_NOTHING, WRITE_BEYOND, WRITE_IN_ANY_ROOM, WRITE_LENGTH_IN_WORDS,
     RESULTS_OF_ZEROS, RESULTS_WITHOUT_COUNT, RESULTS_REFUSE, RESULTS_TAKE_SHORT_FILES, RESULTS_LENGTH_LOST,
     APPEND_UNWRITTEN, APPEND_SHOWS_MINUS_ZERO, APPEND_COUNTS_NANS, APPEND_LEAVES_OUT_INFINITIES, APPEND_ALL_ENTRIES, APPEND_COUNT_LOST, APPEND_ANY_CENTRE,
-    WITHDRAW_MOVES_UP, WITHDRAW_CLEARS, WITHDRAW_OLD_ENTRY, WITHDRAW_NEVER_REFUSES, SUMMARY_UNWRITTEN, SUMMARY_ANY_RUN, SUMMARY_OF_ZEROS
+    WITHDRAW_MOVES_UP, WITHDRAW_CLEARS, WITHDRAW_OLD_ENTRY, WITHDRAW_NEVER_REFUSES, SUMMARY_UNWRITTEN, SUMMARY_ANY_RUN, SUMMARY_ANY_LIST, SUMMARY_OF_ZEROS
 };
 
 static enum fault fault;
@@ -82,6 +82,7 @@ static const struct telling {
     { WITHDRAW_NEVER_REFUSES, DOES_NOT "a state that is not there withdrawn: the status is 0 and not 42: " },
     { SUMMARY_UNWRITTEN, DOES_NOT "a summary: the states of centre 0 is 5EED5EED5EED5EED and not 0000000000000001: " },
     { SUMMARY_ANY_RUN, DOES_NOT "a summary of a run a word short: the status is 0 and not 27: " },
+    { SUMMARY_ANY_LIST, DOES_NOT "a summary to a list a word short: the status is 0 and not 41: " },
     { SUMMARY_OF_ZEROS, DOES_NOT "a summary: the states of centre 0 is 0000000000000000 and not 0000000000000001: " }
 };
 
@@ -263,7 +264,7 @@ static void list_anew(const uint64_t *states, uint64_t count, uint64_t centres, 
 {
     uint64_t answer[KELUBASHI_CHANGE_ANSWER];
 
-    second_summary(states, KELUBASHI_STATES, count, centres, list, k, answer, KELUBASHI_CHANGE_ANSWER);
+    second_summary(states, KELUBASHI_STATE_RUN, count, centres, list, k, answer, KELUBASHI_CHANGE_ANSWER);
 }
 
 /* The entry of the appended state with the fault. */
@@ -299,7 +300,7 @@ uint64_t kelubashi1_append(const uint64_t *record, size_t r, uint64_t *states, s
 uint64_t kelubashi1_withdraw(uint64_t which, uint64_t *states, size_t words, uint64_t count, uint64_t centres,
                              uint64_t *list, size_t k, uint64_t *answer, size_t n)
 {
-    static uint64_t kept[KELUBASHI_STATES], entries[KELUBASHI_MOST_CENTRES * KELUBASHI_ENTRY];
+    static uint64_t kept[KELUBASHI_STATE_RUN], entries[KELUBASHI_MOST_CENTRES * KELUBASHI_ENTRY];
     uint64_t status;
 
     memcpy(kept, states, sizeof kept);
@@ -320,7 +321,8 @@ uint64_t kelubashi1_summary(const uint64_t *states, size_t words, uint64_t count
                             size_t k, uint64_t *answer, size_t n)
 {
     static uint64_t right[KELUBASHI_MOST_CENTRES * KELUBASHI_ENTRY];
-    uint64_t status = second_summary(states, fault == SUMMARY_ANY_RUN ? KELUBASHI_STATES : words, count, centres, right, k, answer, n);
+    uint64_t status = second_summary(states, fault == SUMMARY_ANY_RUN ? KELUBASHI_STATE_RUN : words, count, centres, right,
+                                     fault == SUMMARY_ANY_LIST ? (size_t)centres * KELUBASHI_ENTRY : k, answer, n);
 
     if (fault == SUMMARY_OF_ZEROS)
         memset(right, 0, sizeof right);

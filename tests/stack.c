@@ -20,7 +20,7 @@ static ucontext_t before, during;
 static uint64_t answer[KELUBASHI_ANSWER], run[KELUBASHI_PARTIALS], status;
 static uint8_t file[KELUBASHI_MOST_FILE], room[KELUBASHI_MOST_RESULTS];
 static size_t length;
-static uint64_t states[KELUBASHI_STATES], list[KELUBASHI_ENTRY];
+static uint64_t states[KELUBASHI_STATE_RUN], list[KELUBASHI_ENTRY];
 
 /* The low Earth orbit of the README for 600 s, a hyperbola for a day, and a figure that is refused. */
 static const double GIVEN[][8] = {
@@ -76,7 +76,7 @@ static void results(void)
 /* 400 states of one centre, one more, and one fewer. */
 static void summary(void)
 {
-    status = kelubashi1_summary(states, KELUBASHI_STATES, 400, 1, list, KELUBASHI_ENTRY, answer, KELUBASHI_CHANGE_ANSWER);
+    status = kelubashi1_summary(states, KELUBASHI_STATE_RUN, 400, 1, list, KELUBASHI_ENTRY, answer, KELUBASHI_CHANGE_ANSWER);
 }
 
 static void append(void)
@@ -84,13 +84,13 @@ static void append(void)
     uint64_t record[KELUBASHI_STATE] = { 0 };
 
     record[1] = WORD(7);
-    status = kelubashi1_append(record, KELUBASHI_STATE, states, KELUBASHI_STATES, 400, 1, list, KELUBASHI_ENTRY, answer,
+    status = kelubashi1_append(record, KELUBASHI_STATE, states, KELUBASHI_STATE_RUN, 400, 1, list, KELUBASHI_ENTRY, answer,
                                KELUBASHI_CHANGE_ANSWER);
 }
 
 static void withdraw(void)
 {
-    status = kelubashi1_withdraw(200, states, KELUBASHI_STATES, 400, 1, list, KELUBASHI_ENTRY, answer,
+    status = kelubashi1_withdraw(200, states, KELUBASHI_STATE_RUN, 400, 1, list, KELUBASHI_ENTRY, answer,
                                  KELUBASHI_CHANGE_ANSWER);
 }
 

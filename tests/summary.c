@@ -20,7 +20,7 @@ static void compare_one(uint64_t number)
     const struct roster_family *family = roster_family(number, &turn);
 
     family->make(&roster, turn);
-    ask_roster(family->name, &roster);
+    ask_roster(family->its.name, &roster);
 }
 
 static int tell(void)

@@ -36,7 +36,7 @@ uint64_t request_word(const struct element_file *elements, size_t request, size_
 /* A line with the file and how many there are. */
 void show_counts(const struct element_file *elements);
 
-/* All states, as the first of a run of KELUBASHI_STATES words; the words behind them are left. */
+/* All states, as the first of a run of KELUBASHI_STATE_RUN words; the words behind them are left. */
 void copy_states(const struct element_file *elements, uint64_t *run);
 
 /* The state of a request, and how long after its epoch the request's time is, in s. */

@@ -26,10 +26,11 @@ OneAnswer n ps r allows =
     allows κs a y (atExit (endedOf n ps r) κs a w) →
     (x ≡ y) × (v ≡ w)
 
--- The same of a function that is proved by a walk, whose promise Rattle reads off as an assertion of the logic: that the promise is made of two results with two
--- contents entails that they are the same.
+-- The same of a function that is proved by a walk, whose promise Rattle reads off as an assertion of the logic: for each arguments there is one result, with one content of
+-- all lent memory, and that the promise is made of any result and contents entails that they are these.
 abbrev pub OneAnswerOf : (M : Type 1) (T : Ended) → ((𝓤 : URA M) (H : Heap 𝓤) → Atoms 𝓤 → (Memory → SProp 𝓤) → (Routine → Fun 𝓤) → Clauses 𝓤 T) → Type 2
 OneAnswerOf M T clauses =
-    (𝓤 : URA M) (H : Heap 𝓤) (A : Atoms 𝓤) (mem : Memory → SProp 𝓤) (run : Routine → Fun 𝓤) (κs : Lfts (T .signature .lifetimes)) (a : Args (T .signature) κs)
-    (g h : clauses 𝓤 H A mem run κs a .ghost) (x y : Res (T .signature) κs) (v w : Lasts T κs a) →
-    ent 𝓤 (sep 𝓤 (clauses 𝓤 H A mem run κs a .ensures g x (atExit T κs a v)) (clauses 𝓤 H A mem run κs a .ensures h y (atExit T κs a w))) (fact 𝓤 ((x ≡ y) × (v ≡ w)))
+    (κs : Lfts (T .signature .lifetimes)) (a : Args (T .signature) κs) →
+    (only : Res (T .signature) κs × Lasts T κs a)
+    × ((𝓤 : URA M) (H : Heap 𝓤) (A : Atoms 𝓤) (mem : Memory → SProp 𝓤) (run : Routine → Fun 𝓤) (g : clauses 𝓤 H A mem run κs a .ghost) (x : Res (T .signature) κs) (v : Lasts T κs a) →
+    ent 𝓤 (clauses 𝓤 H A mem run κs a .ensures g x (atExit T κs a v)) (fact 𝓤 ((x ≡ only .0) × (v ≡ only .1))))

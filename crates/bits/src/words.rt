@@ -90,7 +90,7 @@ pub fn magnitude_of(x: f64) -> f64
 pub fn is_nan_word(word: u64) -> bool
     ensures { λ r. ⌜ r ≡ isNanWord word ⌝ }
 {
-    if word % SIGN > INFINITY { true } else { false }
+    word % SIGN > INFINITY
 }
 
 // The place of a word on the line of doubles: both zeros have the one in the middle.
@@ -104,7 +104,7 @@ pub fn line_of(word: u64) -> u64
     }
 }
 
-// The word at a place on the line of doubles: +0 in the middle.
+// The word at a place on the line of doubles: +0 in the middle. The remainder serves place 0 alone, which no word has.
 pub fn word_on(place: u64) -> u64
     ensures { λ r. ⌜ r ≡ wordOn place ⌝ }
 {

@@ -5,14 +5,14 @@ use mathlib.Core.List.{List, [], _∷_, _++_}
 use Prim.Native.Nat.{ℕ, zero, suc, _+_, _-_, _*_, _<_, _≤_}
 use native.Mathlib.Omega.{arith}
 use borrow.Author.Tests.{lt-ltb}
-use lib.ListN.{length, getD, length-set}
+use lib.ListN.{length, getD}
 use lib.Seq.{getD-append-seam}
 use Rattle.files_words.proofs.PutLaws.{length-put}
 use Rattle.files_sections.specs.declared.sections.Section.the-variants.{States}
 use Rattle.files_sections.specs.Sections.{widthOf}
 use Rattle.files_summary.specs.declared.entries.Summary.{Summary}
 use Rattle.files_summary.specs.Entries.{inUse, centreOf, entryOf}
-use Rattle.files_summary.specs.Changes.{refuse, oneEach, withdrawRefusal, stateAt, appendedTo, withdrawnFrom, settled}
+use Rattle.files_summary.specs.Changes.{refuse, oneEach, withdrawRefusal, stateAt, appendedTo, withdrawnFrom}
 use Rattle.files_summary.specs.Kept.{append, withdraw, Kept, changeBy, changesBy, without, GivenBack}
 use Rattle.files_summary.proofs.RefusalLaws.{appendable, withdraw-by, Appendable, Withdrawable}
 use Rattle.files_summary.proofs.AnewLaws.{done, made}
@@ -34,9 +34,13 @@ withdraw-passes which run count centres listed w =
     ∙ withdraw-by which run count centres listed true (w .lent) (lt-ltb which count (w .there)))
 
 -- ---- The state that was appended may be withdrawn, and what is left is what was there.
-module _ (centres : ℕ) (state : List ℕ) (k : Kept Summary) (a : Appendable state (length (k .run)) (k .count) centres (oneEach 1 (length (k .list)) centres)) where
-  abbrev then : Kept Summary
-  then = done (append state) k
+module _ {A : Type 0} (width : ℕ) (store : List A → ℕ → Summary → List A) (keeps : (list : List A) (at : ℕ) (entry : Summary) → length (store list at entry) ≡ length list)
+    (centres : ℕ) (state : List ℕ) (k : Kept A) (a : Appendable state (length (k .run)) (k .count) centres (oneEach width (length (k .list)) centres)) where
+  abbrev then : Kept A
+  then = done width store (append state) k
+
+  abbrev listed : Bool
+  listed = oneEach width (length (then .list)) centres
 
   room : suc (k .count) * widthOf States ≤ length (k .run)
   room = omega (arith, a .lent .whole, a .not-full)
@@ -54,12 +58,12 @@ module _ (centres : ℕ) (state : List ℕ) (k : Kept Summary) (a : Appendable s
       ∙ ap₂ (λ (l : List (List ℕ)) (n : ℕ). getD l n []) more (sym (length-in-use (k .run) (k .count)))
       ∙ getD-append-seam (inUse (k .run) (k .count)) state [] []
 
-  may-go : Withdrawable (k .count) (then .run) (k .count + 1) centres (oneEach 1 (length (then .list)) centres)
+  may-go : Withdrawable (k .count) (then .run) (k .count + 1) centres listed
   may-go = record {
     lent = record {
       whole = same-length ∙ a .lent .whole;
       few = omega (arith, a .not-full);
-      is-listed = ap (λ (n : ℕ). oneEach 1 n centres) (length-set (k .list) (centreOf state) (entryOf (centreOf state) (inUse (then .run) (k .count + 1)))) ∙ a .lent .is-listed;
+      is-listed = ap (λ (n : ℕ). oneEach width n centres) (keeps (k .list) (centreOf state) (entryOf (centreOf state) (inUse (then .run) (k .count + 1)))) ∙ a .lent .is-listed;
     };
     there = omega arith;
     has-centre = subst (λ (s : List ℕ). centreOf s < centres) (sym last-state) (a .has-centre);
@@ -71,17 +75,17 @@ module _ (centres : ℕ) (state : List ℕ) (k : Kept Summary) (a : Appendable s
       ∙ ap (λ (l : List (List ℕ)). without l (k .count)) more
       ∙ without-last (inUse (k .run) (k .count)) state (k .count) (sym (length-in-use (k .run) (k .count)))
 
-  left : let after = changeBy 1 settled centres (withdraw (k .count)) then in (after .count ≡ k .count) × (inUse (after .run) (after .count) ≡ inUse (k .run) (k .count))
+  left : let after = changeBy width store centres (withdraw (k .count)) then in (after .count ≡ k .count) × (inUse (after .run) (after .count) ≡ inUse (k .run) (k .count))
   left =
-      let w = made centres (withdraw (k .count)) then (withdraw-passes (k .count) (then .run) (k .count + 1) centres (oneEach 1 (length (then .list)) centres) may-go) in
+      let w = made width store centres (withdraw (k .count)) then (withdraw-passes (k .count) (then .run) (k .count + 1) centres listed may-go) in
       let one-fewer : k .count + 1 - 1 ≡ k .count = omega arith in
-      (ap (λ (z : Kept Summary). z .count) w ∙ one-fewer, ap (λ (z : Kept Summary). inUse (z .run) (z .count)) w ∙ fewer)
+      (ap (λ (z : Kept A). z .count) w ∙ one-fewer, ap (λ (z : Kept A). inUse (z .run) (z .count)) w ∙ fewer)
 
 pub given-back : GivenBack
 unfolding changesBy
-given-back centres state k e =
+given-back A width store keeps centres state k e =
     subst
-    (λ (then : Kept Summary).
-    let after = changeBy 1 settled centres (withdraw (k .count)) then in (after .count ≡ k .count) × (inUse (after .run) (after .count) ≡ inUse (k .run) (k .count)))
-    (sym (made centres (append state) k e))
-    (left centres state k (appendable state (length (k .run)) (k .count) centres (oneEach 1 (length (k .list)) centres) e))
+    (λ (then : Kept A).
+    let after = changeBy width store centres (withdraw (k .count)) then in (after .count ≡ k .count) × (inUse (after .run) (after .count) ≡ inUse (k .run) (k .count)))
+    (sym (made width store centres (append state) k e))
+    (left width store keeps centres state k (appendable state (length (k .run)) (k .count) centres (oneEach width (length (k .list)) centres) e))

@@ -1,9 +1,9 @@
--- The epochs that an entry shows are the earliest and the latest of its centre's states, by doubles.
+-- The epochs that an entry shows are the earliest and the latest of its centre's states, by doubles; and its counts are how many there are.
 use mathlib.Core.Path.{_≡_, refl, sym, ap, subst, _∙_}
 use mathlib.Core.Logic.{_⊎_, inl, inr}
-use mathlib.Core.Bool.{Bool, true, false}
+use mathlib.Core.Bool.{Bool, true, false, not, _&&_}
 use mathlib.Core.List.{List, [], _∷_}
-use Prim.Native.Nat.{ℕ, zero, suc, _^_, _<_, _≤_}
+use Prim.Native.Nat.{ℕ, zero, suc, _+_, _^_, _<_, _≤_}
 use native.Mathlib.Decide.{decLt}
 use native.Mathlib.Omega.{arith}
 use borrow.Author.Tests.{le-ltb, ltb-true, ltb-false, eq-eqb, eqb-true, eqb-false}
@@ -14,8 +14,8 @@ use Rattle.bits.specs.Choice.{pick}
 use Rattle.bits.specs.Words.{minusZero}
 use Rattle.bits.specs.Line.{isNanWord, lineOf, wordOn}
 use Rattle.bits.proofs.Line.{below-line, above-line, word-back, zero-shown, place-back, in-order, same-place}
-use Rattle.files_summary.specs.Entries.{centreOf, epochOf, epochsOf, numbersIn, earlier, later, earliest, latest, shownBy, entryBy}
-use Rattle.files_summary.specs.Kept.{OfCentre, TellsExtremes}
+use Rattle.files_summary.specs.Entries.{centreOf, epochOf, epochsOf, numbersIn, nansIn, earlier, later, earliest, latest, shownBy, entryBy}
+use Rattle.files_summary.specs.Kept.{OfCentre, TellsTrue, howMany}
 
 -- ---- A place that is one of a list.
 abbrev Among : ℕ → List ℕ → Type 0
@@ -271,9 +271,35 @@ module _ (centre : ℕ) (states : List (List ℕ)) (words : (i : ℕ) → i < le
       let t = told-beside AtLeast latest by-later i l o in
       in-order word w (t .shows .fits) (words i l) (t .shows .is-number) (o .1) ∙ le-ltb (lineOf word) (lineOf w) (omega (arith, t .beside i l o, t .shows .at-place))
 
-pub tells-extremes : TellsExtremes
+-- ---- The two counts, a state at a time.
+spread : {A B : Type 0} (f : A → B) (a : Bool) (x y : A) → f (pick a x y) ≡ pick a (f x) (f y)
+spread f true x y = refl
+spread f false x y = refl
+
+one-counted : (a b : Bool) (p n m : ℕ) (ps : List ℕ) (z : ℕ) → length ps ≡ n → z ≡ m →
+    (pick a (length (pick b ps (p ∷ ps))) (length ps) ≡ pick (a && not b) (1 + n) n) × (pick a (pick b (1 + z) z) z ≡ pick (a && b) (1 + m) m)
+one-counted true true p n m ps z e f = (e, omega arith)
+one-counted true false p n m ps z e f = (omega arith, f)
+one-counted false b p n m ps z e f = (e, f)
+
+counted : (centre : ℕ) (states : List (List ℕ)) →
+    (length (placesOf centre states) ≡ howMany (λ s. eqb (centreOf s) centre && not (isNanWord (epochOf s))) states)
+    × (nansIn (epochsOf centre states) ≡ howMany (λ s. eqb (centreOf s) centre && isNanWord (epochOf s)) states)
+unfolding epochsOf numbersIn nansIn howMany
+counted centre [] = (refl, refl)
+counted centre (s ∷ ss) =
+    let a = eqb (centreOf s) centre in
+    let b = isNanWord (epochOf s) in
+    let es = epochsOf centre ss in
+    let rest = counted centre ss in
+    let one = one-counted a b (lineOf (epochOf s)) _ _ (numbersIn es) (nansIn es) (rest .0) (rest .1) in
+    (spread (λ (l : List ℕ). length (numbersIn l)) a (epochOf s ∷ es) es ∙ one .0, spread nansIn a (epochOf s ∷ es) es ∙ one .1)
+
+pub tells-true : TellsTrue
 unfolding entryBy
-tells-extremes centre states words = record {
+tells-true centre states words = record {
+  numbers = counted centre states .0;
+  nans = counted centre states .1;
   none-earlier = not-before centre states words;
   none-later = not-after centre states words;
   one-earliest = λ l. one-equal centre states words AtMost (shownBy earliest (placesOf centre states)) (told centre states words AtMost earliest by-earlier l);

@@ -3,6 +3,7 @@ pub mod RefusalLaws
 pub mod PartLaws
 pub mod ChangeLaws
 pub mod WordLaws
+pub mod OrderLaws
 pub mod StateLaws
 pub mod AnewLaws
 pub mod RightLaws

@@ -13,7 +13,7 @@ use Rattle.files_words.proofs.PutLaws.{put-fits}
 use Rattle.files_summary.specs.declared.entries.Summary.{Summary}
 use Rattle.files_summary.specs.declared.changes.Change.{Change}
 use Rattle.files_summary.specs.Entries.{inUse, entryWords}
-use Rattle.files_summary.specs.Changes.{oneEach, unlessRefused, appendOf, appendRun, withdrawOf, withdrawRun, settled, settledWords, entryWidth, entriesOf, asWords}
+use Rattle.files_summary.specs.Changes.{oneEach, unlessRefused, appendOf, appendRun, withdrawOf, withdrawRun, settledBy, entryWidth, putEntry, entriesOf, asWords}
 use Rattle.files_summary.specs.Kept.{Asked, append, withdraw, Kept, changeBy, changesBy, inWords, OneList, RightWordsStay}
 use Rattle.files_summary.proofs.ChangeLaws.{within-append, within-withdraw}
 use Rattle.files_summary.proofs.RightLaws.{right-stays}
@@ -47,7 +47,7 @@ words-set (x ∷ xs) (suc i) s h =
     ∙ sym (put-behind (entryWords x) (asWords xs) (entryWords s) (i * entryWidth) (omega (arith, length-as-words xs)))
     ∙ ap (λ (n : ℕ). put (entryWords x ++ asWords xs) n (entryWords s)) place
 
-settled-alike : (list : List Summary) (change : Change) → (change .number ≡ 0 → change .at < length list) → settledWords (asWords list) change ≡ asWords (settled list change)
+settled-alike : (list : List Summary) (change : Change) → (change .number ≡ 0 → change .at < length list) → settledBy putEntry (asWords list) change ≡ asWords (settledBy set list change)
 settled-alike list change h = go (change .number) h
   where
     go : (n : ℕ) → (n ≡ 0 → change .at < length list)
@@ -70,13 +70,13 @@ at-its-place list centres change within e =
     omega (arith, l, w .1)
 
 -- ---- One change, and changes one after another.
-change-alike : (centres : ℕ) (asked : Asked) (k : Kept Summary) → changeBy entryWidth settledWords centres asked (inWords k) ≡ inWords (changeBy 1 settled centres asked k)
+change-alike : (centres : ℕ) (asked : Asked) (k : Kept Summary) → changeBy entryWidth putEntry centres asked (inWords k) ≡ inWords (changeBy 1 set centres asked k)
 unfolding changeBy
 change-alike centres (append state) k =
     let listed = oneEach 1 (length (k .list)) centres in
     let by : Bool → Change = appendOf state (k .run) (k .count) centres in
     let e = same-each (k .list) centres in
-    (λ i. record { run = appendRun state (k .run) (k .count) centres (e i); count = by (e i) .count; list = settledWords (asWords (k .list)) (by (e i)) })
+    (λ i. record { run = appendRun state (k .run) (k .count) centres (e i); count = by (e i) .count; list = settledBy putEntry (asWords (k .list)) (by (e i)) })
     ∙ (λ i. record {
       run = appendRun state (k .run) (k .count) centres listed;
       count = by listed .count;
@@ -86,7 +86,7 @@ change-alike centres (withdraw which) k =
     let listed = oneEach 1 (length (k .list)) centres in
     let by : Bool → Change = withdrawOf which (k .run) (k .count) centres in
     let e = same-each (k .list) centres in
-    (λ i. record { run = withdrawRun which (k .run) (k .count) centres (e i); count = by (e i) .count; list = settledWords (asWords (k .list)) (by (e i)) })
+    (λ i. record { run = withdrawRun which (k .run) (k .count) centres (e i); count = by (e i) .count; list = settledBy putEntry (asWords (k .list)) (by (e i)) })
     ∙ (λ i. record {
       run = withdrawRun which (k .run) (k .count) centres listed;
       count = by listed .count;
@@ -97,13 +97,13 @@ pub one-list : OneList
 unfolding changesBy
 one-list centres [] k = refl
 one-list centres (asked ∷ rest) k =
-    ap (changesBy entryWidth settledWords centres rest) (change-alike centres asked k) ∙ one-list centres rest (changeBy 1 settled centres asked k)
+    ap (changesBy entryWidth putEntry centres rest) (change-alike centres asked k) ∙ one-list centres rest (changeBy 1 set centres asked k)
 
 pub right-words-stay : RightWordsStay
 right-words-stay centres asked k right =
     let structs : Kept Summary = record { run = k .run; count = k .count; list = entriesOf (inUse (k .run) (k .count)) centres } in
     let same : k ≡ inWords structs = λ i. record { run = k .run; count = k .count; list = right i } in
-    let after = ap (changesBy entryWidth settledWords centres asked) same ∙ one-list centres asked structs in
+    let after = ap (changesBy entryWidth putEntry centres asked) same ∙ one-list centres asked structs in
     let kept = right-stays centres asked structs refl in
     ap (λ (z : Kept ℕ). z .list) after
     ∙ ap asWords kept

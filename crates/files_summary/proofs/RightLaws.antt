@@ -12,10 +12,10 @@ use lib.Seq.{ext-getD, getD-append-seam, getD-set-same, getD-set-other}
 use Rattle.bits.specs.Choice.{pick}
 use Rattle.files_summary.specs.declared.entries.Summary.{Summary}
 use Rattle.files_summary.specs.Entries.{inUse, centreOf, epochOf, epochsOf, entryBy, entryOf, noEntry}
-use Rattle.files_summary.specs.Changes.{oneEach, settled, entriesOf}
+use Rattle.files_summary.specs.Changes.{oneEach, entriesOf}
 use Rattle.files_summary.specs.Kept.{Asked, append, withdraw, Kept, changeBy, changesBy, refusalAsked, centreAsked, runAsked, countAsked, Right, RightStays, without}
 use Rattle.files_summary.proofs.RefusalLaws.{appendable, withdrawable}
-use Rattle.files_summary.proofs.AnewLaws.{made, not-made, has-centre}
+use Rattle.files_summary.proofs.AnewLaws.{made, not-made, granted}
 use Rattle.files_summary.proofs.StateLaws.{in-use-at, one-appended, one-withdrawn}
 
 -- ---- The epochs of a centre, with a state more and with one fewer, which is another centre's.
@@ -75,7 +75,7 @@ one-anew before after centres c h others =
         ∙ sym (entry-at after centres i k)
 
 -- ---- A change touches the epochs of its own centre alone.
-other-centres : (centres : ℕ) (asked : Asked) (k : Kept Summary) → refusalAsked centres asked k ≡ 0 → (d : ℕ) → (centreAsked asked k ≡ d → ⊥)
+other-centres : (centres : ℕ) (asked : Asked) (k : Kept Summary) → refusalAsked 1 centres asked k ≡ 0 → (d : ℕ) → (centreAsked asked k ≡ d → ⊥)
     → entryOf d (inUse (runAsked asked k) (countAsked asked k)) ≡ entryOf d (inUse (k .run) (k .count))
 other-centres centres (append state) k e d other =
     let a = appendable state (length (k .run)) (k .count) centres (oneEach 1 (length (k .list)) centres) e in
@@ -88,19 +88,19 @@ other-centres centres (withdraw which) k e d other =
     ap entryBy (ap (epochsOf d) fewer ∙ epochs-without d (inUse (k .run) (k .count)) which (λ z. other (ap centreOf (sym its) ∙ z)))
 
 -- ---- One change, and changes one after another.
-after-one : (centres : ℕ) (asked : Asked) (k : Kept Summary) → Right centres k → Right centres (changeBy 1 settled centres asked k)
-after-one centres asked k right = go (refusalAsked centres asked k) refl
+after-one : (centres : ℕ) (asked : Asked) (k : Kept Summary) → Right centres k → Right centres (changeBy 1 set centres asked k)
+after-one centres asked k right = go (refusalAsked 1 centres asked k) refl
   where
-    go : (n : ℕ) → refusalAsked centres asked k ≡ n → Right centres (changeBy 1 settled centres asked k)
+    go : (n : ℕ) → refusalAsked 1 centres asked k ≡ n → Right centres (changeBy 1 set centres asked k)
     go zero e =
         let c = centreAsked asked k in
         let after = inUse (runAsked asked k) (countAsked asked k) in
-        subst (Right centres) (sym (made centres asked k e))
+        subst (Right centres) (sym (made 1 set centres asked k e))
         (ap (λ (l : List Summary). set l c (entryOf c after)) right
-        ∙ one-anew (inUse (k .run) (k .count)) after centres c (has-centre centres asked k e) (other-centres centres asked k e))
-    go (suc n) e = subst (Right centres) (sym (not-made centres asked k (λ z. omega (arith, e, z)))) right
+        ∙ one-anew (inUse (k .run) (k .count)) after centres c (granted 1 centres asked k e .1) (other-centres centres asked k e))
+    go (suc n) e = subst (Right centres) (sym (not-made 1 set centres asked k (λ z. omega (arith, e, z)))) right
 
 pub right-stays : RightStays
 unfolding changesBy
 right-stays centres [] k right = right
-right-stays centres (asked ∷ rest) k right = right-stays centres rest (changeBy 1 settled centres asked k) (after-one centres asked k right)
+right-stays centres (asked ∷ rest) k right = right-stays centres rest (changeBy 1 set centres asked k) (after-one centres asked k right)

@@ -148,17 +148,25 @@ module _ (run words : List ℕ) (place : ℕ) (fits : place + length words ≤ l
   abbrev front : List ℕ
   front = take place run
 
-  untouched-before : take place (put run place words) ≡ take place run
+  pub untouched-before : take place (put run place words) ≡ take place run
   untouched-before =
       ap (take place) (put-fits run words place fits ∙ append-assoc front words (drop (place + length words) run))
       ∙ take-at front (words ++ drop (place + length words) run) place (length-take-le place run (omega arith))
 
-  untouched-behind : (end : ℕ) → end ≡ place + length words → drop end (put run place words) ≡ drop end run
+  pub untouched-behind : (end : ℕ) → end ≡ place + length words → drop end (put run place words) ≡ drop end run
   untouched-behind end e =
       let l : length (front ++ words) ≡ place + length words = length-append front words ∙ ap (λ (n : ℕ). n + length words) (length-take-le place run (omega arith)) in
       ap (drop end) (put-fits run words place fits)
       ∙ drop-at (front ++ words) (drop (place + length words) run) end (l ∙ sym e)
       ∙ ap (λ (n : ℕ). drop n run) (sym e)
+
+  -- The words that were put.
+  pub put-in : take (length words) (drop place (put run place words)) ≡ words
+  put-in =
+      let l = length-take-le place run (omega arith) in
+      ap (λ (r : List ℕ). take (length words) (drop place r)) (put-fits run words place fits ∙ append-assoc front words (drop (place + length words) run))
+      ∙ ap (take (length words)) (drop-at front (words ++ drop (place + length words) run) place l)
+      ∙ take-at words (drop (place + length words) run) (length words) refl
 
 pub states-move : StatesMove
 unfolding appendedTo withdrawnFrom
@@ -167,16 +175,16 @@ states-move run count = (
       let fits : count * widthOf States + length state ≤ length run = omega (arith, one) in
       let end : (count + 1) * widthOf States ≡ count * widthOf States + length state = omega (arith, one) in
       record {
-        behind-them = one-appended run state count one (omega arith);
-        before = untouched-before run state (count * widthOf States) fits;
-        behind = untouched-behind run state (count * widthOf States) fits ((count + 1) * widthOf States) end;
+        last-of-them = one-appended run state count one (omega arith);
+        words-before = untouched-before run state (count * widthOf States) fits;
+        words-behind = untouched-behind run state (count * widthOf States) fits ((count + 1) * widthOf States) end;
       },
   λ which there room.
       let l = length-moved run count which there room in
       let end : (count - 1) * widthOf States ≡ which * widthOf States + length (followers run count which) = omega (arith, l) in
       record {
         down-one = one-withdrawn run count which there room;
-        before = untouched-before run (followers run count which) (which * widthOf States) (fits run count which there room);
+        words-before = untouched-before run (followers run count which) (which * widthOf States) (fits run count which there room);
         freed-and-behind = untouched-behind run (followers run count which) (which * widthOf States) (fits run count which there room) ((count - 1) * widthOf States) end;
       },
 )

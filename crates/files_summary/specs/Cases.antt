@@ -1,6 +1,7 @@
 -- Small lists and their changes, by computing.
 use Prim.Native.Nat.{ℕ}
 use mathlib.Core.Path.{_≡_, refl}
+use mathlib.Core.Bool.{false}
 use mathlib.Core.List.{List, [], _∷_, _++_}
 use lib.Ieee.{isNan, ofBits}
 use Rattle.bits.specs.Words.{minusZero}
@@ -105,9 +106,14 @@ Refuses words count centres list number = appendRefusal (state 1 one 11) words c
 
 refusals :
     Refuses 4000 0 2 8 0 × Refuses 4000 499 2 8 0
-    × Refuses 3999 501 0 1 27 × Refuses 4000 501 0 1 27 × Refuses 4001 0 2 8 27
-    × Refuses 4000 500 2 7 41 × Refuses 4000 500 2 2 41 × Refuses 4000 500 0 4 41
+    × Refuses 3999 0 2 8 27 × Refuses 4001 0 2 8 27 × Refuses 3999 501 0 1 27 × Refuses 4000 501 0 1 27
+    × Refuses 4000 500 2 7 41 × Refuses 4000 0 2 9 41 × Refuses 4000 500 2 2 41 × Refuses 4000 500 0 4 41
     × Refuses 4000 500 1 4 24
     × Refuses 4000 500 2 8 42
 unfolding appendRefusal
-refusals = (refl, refl, refl, refl, refl, refl, refl, refl, refl, refl)
+refusals = (refl, refl, refl, refl, refl, refl, refl, refl, refl, refl, refl, refl)
+
+-- A record of seven words, whatever else is wrong.
+short-record : appendRefusal (1 ∷ one ∷ 1 ∷ 2 ∷ 3 ∷ 4 ∷ 5 ∷ []) 4000 500 0 false ≡ 27
+unfolding appendRefusal
+short-record = refl

@@ -6,7 +6,7 @@ use Prim.Native.Nat.{ℕ, zero, suc, _+_, _-_, _*_}
 use mathlib.Core.Bool.{Bool}
 use mathlib.Core.List.{List, [], _∷_, _++_}
 use lib.Dec.{eqb, leb, ltb}
-use lib.ListN.{length, take, drop, set}
+use lib.ListN.{length, take, drop}
 use Rattle.bits.specs.Choice.{pick}
 use Rattle.files_words.specs.Bytes.{put}
 use Rattle.files_sections.specs.declared.sections.Section.the-variants.{States}
@@ -107,15 +107,15 @@ withdrawBeside width length which run count centres = withdrawOf which run count
 abbrev pub withdrawRunBeside : (width length which : ℕ) (run : List ℕ) (count centres : ℕ) → List ℕ
 withdrawRunBeside width length which run count centres = withdrawRun which run count centres (oneEach width length centres)
 
--- ---- A list of entries after a change, and the same list as words.
-abbrev pub settled : List Summary → Change → List Summary
-settled list change = unlessRefused (change .number) list (set list (change .at) (change .entry))
+-- ---- A list of entries after a change, by how an entry is stored: among structs by `set`, and among words by `putEntry`.
+abbrev pub settledBy : {A : Type 0} → (List A → ℕ → Summary → List A) → List A → Change → List A
+settledBy store list change = unlessRefused (change .number) list (store list (change .at) (change .entry))
 
 abbrev pub entryWidth : ℕ
 entryWidth = 4
 
-abbrev pub settledWords : List ℕ → Change → List ℕ
-settledWords list change = unlessRefused (change .number) list (put list (change .at * entryWidth) (entryWords (change .entry)))
+abbrev pub putEntry : List ℕ → ℕ → Summary → List ℕ
+putEntry list at entry = put list (at * entryWidth) (entryWords entry)
 
 -- ---- The whole list, worked out afresh: the entries of so many centres, in order; and their words.
 unfoldable pub entriesOf : (states : List (List ℕ)) (centres : ℕ) → List Summary

@@ -92,8 +92,8 @@ withPlace t p = record { states = t .states + 1; nans = t .nans; first = earlier
 abbrev pub withEpoch : Tally → ℕ → Tally
 withEpoch t e = pick (isNanWord e) (withNan t) (withPlace t (lineOf e))
 
-abbrev pub withState : Tally → (centre number epoch : ℕ) → Tally
-withState t centre number e = pick (eqb number centre) (withEpoch t e) t
+abbrev pub withState : Tally → (centre its epoch : ℕ) → Tally
+withState t centre its e = pick (eqb its centre) (withEpoch t e) t
 
 unfoldable pub gathered : Tally → (epochs : List ℕ) → Tally
 gathered t [] = t

@@ -55,7 +55,7 @@ fn append_refusal(state: &[u64], words: usize, count: u64, centres: u64, listed:
     )
 }
 
-// 27, 41, 24, 42: of a state to withdraw.
+// 27, 41, then 42 where the state to withdraw is not there, and 24 where its centre is not.
 fn withdraw_refusal(which: u64, states: &[u64], count: u64, centres: u64, listed: bool) -> u64
     ensures { λ r. ⌜ r ≡ withdrawRefusal which (now (states .entry)) count centres listed ⌝ }
 {

@@ -10,7 +10,6 @@ use files_sections::STATE_EPOCH;
 use files_sections::STATE_WORDS;
 
 // A centre's states at a glance: how many have an epoch that is a number, how many a NaN, and the words of the earliest and the latest epoch.
-#[repr(C)]
 pub struct Summary {
     pub states: u64,
     pub nans: u64,
@@ -63,11 +62,11 @@ fn with_epoch(tally: Tally, epoch: u64) -> Tally
 }
 
 // With one state more, which counts where its centre's number is this centre's.
-fn with_state(tally: Tally, centre: u64, number: u64, epoch: u64) -> Tally
+fn with_state(tally: Tally, centre: u64, its: u64, epoch: u64) -> Tally
     requires { ⌜ (tally .states + 1 < 2 ^ 64) × (tally .nans + 1 < 2 ^ 64) ⌝ }
-    ensures { λ r. ⌜ r ≡ withState tally centre number epoch ⌝ }
+    ensures { λ r. ⌜ r ≡ withState tally centre its epoch ⌝ }
 {
-    if number != centre {
+    if its != centre {
         return tally;
     }
     with_epoch(tally, epoch)

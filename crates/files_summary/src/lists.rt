@@ -2,8 +2,8 @@
 // `changes`; what takes the slice is thin.
 ghost use mathlib.Core.Path.{_≡_};
 ghost use Prim.Native.Nat.{_<_};
-ghost use lib.ListN.{length};
-ghost use Rattle.files_summary.specs.Changes.{settled, appendBeside, appendRunBeside, withdrawBeside, withdrawRunBeside};
+ghost use lib.ListN.{length, set};
+ghost use Rattle.files_summary.specs.Changes.{settledBy, appendBeside, appendRunBeside, withdrawBeside, withdrawRunBeside};
 use crate::changes::Change;
 use crate::changes::append_state;
 use crate::changes::withdraw_state;
@@ -12,7 +12,7 @@ use crate::entries::Summary;
 // The entry of a change put in its place, and the change handed on; a refused one changes nothing.
 fn settle(list: &mut [Summary], change: Change) -> Change
     requires { ⌜ (change .number ≡ 0 → change .at < length (now list)) ⌝ }
-    ensures { λ r. ⌜ (r ≡ change) × (now (list .exit) ≡ settled (now (list .entry)) change) ⌝ }
+    ensures { λ r. ⌜ (r ≡ change) × (now (list .exit) ≡ settledBy set (now (list .entry)) change) ⌝ }
 {
     if change.number == 0 {
         list[change.at] = change.entry;
@@ -30,7 +30,7 @@ pub fn append(
 ) -> Change
     ensures change { λ r. ⌜ r ≡ appendBeside 1 (length (now (list .entry))) (now (state .entry)) (now (states .entry)) count centres ⌝ }
     ensures states { λ _. ⌜ now (states .exit) ≡ appendRunBeside 1 (length (now (list .entry))) (now (state .entry)) (now (states .entry)) count centres ⌝ }
-    ensures list { λ _. ⌜ now (list .exit) ≡ settled (now (list .entry)) (appendBeside 1 (length (now (list .entry))) (now (state .entry)) (now (states .entry)) count centres) ⌝ }
+    ensures list { λ _. ⌜ now (list .exit) ≡ settledBy set (now (list .entry)) (appendBeside 1 (length (now (list .entry))) (now (state .entry)) (now (states .entry)) count centres) ⌝ }
 {
     let listed = list.len() as u64 == centres;
     settle(list, append_state(state, states, count, centres, listed))
@@ -46,7 +46,7 @@ pub fn withdraw(
 ) -> Change
     ensures change { λ r. ⌜ r ≡ withdrawBeside 1 (length (now (list .entry))) which (now (states .entry)) count centres ⌝ }
     ensures states { λ _. ⌜ now (states .exit) ≡ withdrawRunBeside 1 (length (now (list .entry))) which (now (states .entry)) count centres ⌝ }
-    ensures list { λ _. ⌜ now (list .exit) ≡ settled (now (list .entry)) (withdrawBeside 1 (length (now (list .entry))) which (now (states .entry)) count centres) ⌝ }
+    ensures list { λ _. ⌜ now (list .exit) ≡ settledBy set (now (list .entry)) (withdrawBeside 1 (length (now (list .entry))) which (now (states .entry)) count centres) ⌝ }
 {
     let listed = list.len() as u64 == centres;
     settle(list, withdraw_state(which, states, count, centres, listed))

@@ -2,10 +2,9 @@
 ghost use mathlib.Core.Path.{_≡_};
 ghost use Prim.Native.Nat.{suc, _*_, _≤_};
 ghost use lib.ListN.{length};
-ghost use Rattle.files_words.specs.Bytes.{put};
-ghost use Rattle.files_summary.specs.Entries.{Holds, inUse, entryWords};
+ghost use Rattle.files_summary.specs.Entries.{Holds, inUse};
 ghost use Rattle.files_summary.specs.Changes.{oneEach, entryWidth, entriesOf, asWords, summaryRefusal, summaryList};
-ghost use Rattle.files_summary.specs.Changes.{settledWords, appendBeside, appendRunBeside, withdrawBeside, withdrawRunBeside};
+ghost use Rattle.files_summary.specs.Changes.{settledBy, putEntry, appendBeside, appendRunBeside, withdrawBeside, withdrawRunBeside};
 use crate::changes::Change;
 use crate::changes::append_state;
 use crate::changes::lent_refusal;
@@ -30,7 +29,7 @@ fn one_each(words: usize, centres: u64) -> bool
 // An entry put in its place.
 fn put_entry(list: &mut [u64], at: usize, entry: Summary)
     requires { ⌜ suc at * entryWidth ≤ length (now list) ⌝ }
-    ensures { λ _. ⌜ now (list .exit) ≡ put (now (list .entry)) (at * entryWidth) (entryWords entry) ⌝ }
+    ensures { λ _. ⌜ now (list .exit) ≡ putEntry (now (list .entry)) at entry ⌝ }
 {
     let place = at * ENTRY_WORDS;
     copy_words(
@@ -42,7 +41,7 @@ fn put_entry(list: &mut [u64], at: usize, entry: Summary)
 // The entry of a change put in its place; a refused one changes nothing.
 fn settle(list: &mut [u64], change: Change)
     requires { ⌜ (change .number ≡ 0 → suc (change .at) * entryWidth ≤ length (now list)) ⌝ }
-    ensures { λ _. ⌜ now (list .exit) ≡ settledWords (now (list .entry)) change ⌝ }
+    ensures { λ _. ⌜ now (list .exit) ≡ settledBy putEntry (now (list .entry)) change ⌝ }
 {
     if change.number == 0 {
         put_entry(list, change.at, change.entry);
@@ -84,7 +83,7 @@ pub fn append(
 ) -> Change
     ensures change { λ r. ⌜ r ≡ appendBeside entryWidth (length (now (list .entry))) (now (state .entry)) (now (states .entry)) count centres ⌝ }
     ensures states { λ _. ⌜ now (states .exit) ≡ appendRunBeside entryWidth (length (now (list .entry))) (now (state .entry)) (now (states .entry)) count centres ⌝ }
-    ensures list { λ _. ⌜ now (list .exit) ≡ settledWords (now (list .entry)) (appendBeside entryWidth (length (now (list .entry))) (now (state .entry)) (now (states .entry)) count centres) ⌝ }
+    ensures list { λ _. ⌜ now (list .exit) ≡ settledBy putEntry (now (list .entry)) (appendBeside entryWidth (length (now (list .entry))) (now (state .entry)) (now (states .entry)) count centres) ⌝ }
 {
     let listed = one_each(list.len(), centres);
     let change = append_state(state, states, count, centres, listed);
@@ -102,7 +101,7 @@ pub fn withdraw(
 ) -> Change
     ensures change { λ r. ⌜ r ≡ withdrawBeside entryWidth (length (now (list .entry))) which (now (states .entry)) count centres ⌝ }
     ensures states { λ _. ⌜ now (states .exit) ≡ withdrawRunBeside entryWidth (length (now (list .entry))) which (now (states .entry)) count centres ⌝ }
-    ensures list { λ _. ⌜ now (list .exit) ≡ settledWords (now (list .entry)) (withdrawBeside entryWidth (length (now (list .entry))) which (now (states .entry)) count centres) ⌝ }
+    ensures list { λ _. ⌜ now (list .exit) ≡ settledBy putEntry (now (list .entry)) (withdrawBeside entryWidth (length (now (list .entry))) which (now (states .entry)) count centres) ⌝ }
 {
     let listed = one_each(list.len(), centres);
     let change = withdraw_state(which, states, count, centres, listed);

@@ -8,7 +8,7 @@ ghost use Rattle.states.specs.WithPartials.{partialsOf, lentOf};
 ghost use Rattle.files_words.specs.Bytes.{put};
 ghost use Rattle.files_results.specs.Results.{outcomeOf, resultFile};
 ghost use lib.ListN.{length};
-ghost use Rattle.files_summary.specs.Changes.{entryWidth, summaryRefusal, summaryList, appendBeside, appendRunBeside, withdrawBeside, withdrawRunBeside, settledWords};
+ghost use Rattle.files_summary.specs.Changes.{entryWidth, summaryRefusal, summaryList, appendBeside, appendRunBeside, withdrawBeside, withdrawRunBeside, settledBy, putEntry};
 ghost use Rattle.kelubashi.specs.Face.{returned, answerAfter, orbitWords, lentBehind, readWords, resultsWords, numberIn, writeNumber, writeAnswer, writeRoom, changeWords};
 
 mod answers;
@@ -163,7 +163,7 @@ pub extern "C" fn kelubashi1_append(
     ensures number { λ r. ⌜ r ≡ returned 2 (now (answer .entry)) (appendBeside entryWidth (length (now (list .entry))) (now (state .entry)) (now (states .entry)) count centres .number) ⌝ }
     ensures answer { λ _. ⌜ now (answer .exit) ≡ answerAfter 2 (now (answer .entry)) (changeWords (appendBeside entryWidth (length (now (list .entry))) (now (state .entry)) (now (states .entry)) count centres)) ⌝ }
     ensures states { λ _. ⌜ now (states .exit) ≡ lentBehind 2 (now (answer .entry)) (now (states .entry)) (appendRunBeside entryWidth (length (now (list .entry))) (now (state .entry)) (now (states .entry)) count centres) ⌝ }
-    ensures list { λ _. ⌜ now (list .exit) ≡ lentBehind 2 (now (answer .entry)) (now (list .entry)) (settledWords (now (list .entry)) (appendBeside entryWidth (length (now (list .entry))) (now (state .entry)) (now (states .entry)) count centres)) ⌝ }
+    ensures list { λ _. ⌜ now (list .exit) ≡ lentBehind 2 (now (answer .entry)) (now (list .entry)) (settledBy putEntry (now (list .entry)) (appendBeside entryWidth (length (now (list .entry))) (now (state .entry)) (now (states .entry)) count centres)) ⌝ }
 {
     if answer.len() != 2 {
         return 60;
@@ -186,7 +186,7 @@ pub extern "C" fn kelubashi1_withdraw(
     ensures number { λ r. ⌜ r ≡ returned 2 (now (answer .entry)) (withdrawBeside entryWidth (length (now (list .entry))) which (now (states .entry)) count centres .number) ⌝ }
     ensures answer { λ _. ⌜ now (answer .exit) ≡ answerAfter 2 (now (answer .entry)) (changeWords (withdrawBeside entryWidth (length (now (list .entry))) which (now (states .entry)) count centres)) ⌝ }
     ensures states { λ _. ⌜ now (states .exit) ≡ lentBehind 2 (now (answer .entry)) (now (states .entry)) (withdrawRunBeside entryWidth (length (now (list .entry))) which (now (states .entry)) count centres) ⌝ }
-    ensures list { λ _. ⌜ now (list .exit) ≡ lentBehind 2 (now (answer .entry)) (now (list .entry)) (settledWords (now (list .entry)) (withdrawBeside entryWidth (length (now (list .entry))) which (now (states .entry)) count centres)) ⌝ }
+    ensures list { λ _. ⌜ now (list .exit) ≡ lentBehind 2 (now (answer .entry)) (now (list .entry)) (settledBy putEntry (now (list .entry)) (withdrawBeside entryWidth (length (now (list .entry))) which (now (states .entry)) count centres)) ⌝ }
 {
     if answer.len() != 2 {
         return 60;

@@ -11,7 +11,7 @@ use Rattle.files_summary.proofs.entries.with_state.Tie as tie
 returns : tie.Need-returns
 returns c =
     let a = c .before .args in
-    sym (ap (λ (t : Bool). pick t (withEpoch (a .tally) (a .epoch)) (a .tally)) (ne-eqb (a .number) (a .centre) (c .if1 .taken)))
+    sym (ap (λ (t : Bool). pick t (withEpoch (a .tally) (a .epoch)) (a .tally)) (ne-eqb (a .its) (a .centre) (c .if1 .taken)))
 
 with-epoch-requires : tie.Need-with-epoch-requires
 with-epoch-requires c κs = search needs
@@ -19,7 +19,7 @@ with-epoch-requires c κs = search needs
 returns-2 : tie.Need-returns-2
 returns-2 c =
     let a = c .before .before .args in
-    c .with-epoch .ensures ∙ sym (ap (λ (t : Bool). pick t (withEpoch (a .tally) (a .epoch)) (a .tally)) (eq-eqb (a .number) (a .centre) (c .before .if1 .left)))
+    c .with-epoch .ensures ∙ sym (ap (λ (t : Bool). pick t (withEpoch (a .tally) (a .epoch)) (a .tally)) (eq-eqb (a .its) (a .centre) (c .before .if1 .left)))
 
 pub with-state-spec : {M : Type 1} → statement M
 with-state-spec = tie.close (tie.spec returns with-epoch-requires returns-2)

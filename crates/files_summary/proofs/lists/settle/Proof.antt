@@ -37,7 +37,7 @@ use denote.Triple.Spec.{Meets, tripleOf}
 use denote.Triple.Table.{entered}
 use denote.Triple.Walked.{says, needs, Stays, stay-slice, stay-dropped, walkOf, goes-slice, goes-dropped, ends-at, walked, walk-meets}
 use denote.Exit.{yes}
-use Rattle.files_summary.specs.Changes.{settled}
+use Rattle.files_summary.specs.Changes.{settledBy}
 use Rattle.files_summary.specs.declared.entries.Summary.{Summary}
 use Rattle.files_summary.specs.declared.changes.Change.{Change}
 use Rattle.files_summary.proofs.ChangeLaws.{if-made, if-refused}
@@ -76,7 +76,7 @@ module _ {M : Type 1} (𝓤 : URA M) (H : Heap 𝓤) (A : Atoms 𝓤) (W : Given
   abbrev Left : List Summary → List (Item 𝓤)
   Left zs = ‵ (fobs γ (codedHoleys T.the-row .code (heres T.the-row zs))) ∷ ‵ (fbor κ (Held T.the-row (length zs) b o γ)) ∷ ‵ (flft κ q) ∷ ‵ (P.the-row .own p (mach ∷ [])) ∷ []
 
-  exits : (zs : List Summary) → length zs ≡ length ys → zs ≡ settled ys p → ent 𝓤 (⋆ 𝓤 H A (Left zs)) (Post mach)
+  exits : (zs : List Summary) → length zs ≡ length ys → zs ≡ settledBy set ys p → ent 𝓤 (⋆ 𝓤 H A (Left zs)) (Post mach)
   exits zs e is-settled =
       qed W (Left zs) ∵
       suffices ! _ (ends-at 𝓤 H A f.ended stayed (f.clauses 𝓤 H A mem run) W (((κ, tt), (q, tt), tt, a, vals), tt) mach p (zs, (tt, tt)) (e, (tt, tt))) $ says ! (refl, is-settled) $

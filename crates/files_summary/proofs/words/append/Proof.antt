@@ -2,7 +2,7 @@
 use mathlib.Core.Path.{ap, _∙_}
 use borrow.Author.Needs.{needs}
 use lib.ListN.{length}
-use Rattle.files_summary.specs.Changes.{entryWidth, settledWords, appendOf, appendRun}
+use Rattle.files_summary.specs.Changes.{entryWidth, settledBy, putEntry, appendOf, appendRun}
 use Rattle.files_summary.proofs.ChangeLaws.{within-append, has-place}
 use Rattle.files_summary.proofs.words.append.Statement.{statement}
 use Rattle.files_summary.proofs.words.append.Tie as tie
@@ -30,14 +30,14 @@ same-length-2 c = search needs
 
 returns : tie.Need-returns
 returns c =
-    let settled = c .before .before in
-    let made = settled .before .before .before .before in
+    let stored = c .before .before in
+    let made = stored .before .before .before .before in
     let one = made .before .before in
     let a = one .before .before .before .before .args in
     let e = made .append-state .ensures in
     let listed = one .one-each .ensures in
     let change = e .0 ∙ ap (appendOf (a .state .now) (a .states .now) (a .count) (a .centres)) listed in
-    (change, (e .1 ∙ ap (appendRun (a .state .now) (a .states .now) (a .count) (a .centres)) listed, settled .settle .ensures ∙ ap (settledWords (a .list .now)) change))
+    (change, (e .1 ∙ ap (appendRun (a .state .now) (a .states .now) (a .count) (a .centres)) listed, stored .settle .ensures ∙ ap (settledBy putEntry (a .list .now)) change))
 
 pub append-spec : {M : Type 1} → statement M
 append-spec =
