@@ -4,8 +4,8 @@ ghost use Prim.Native.Nat.{suc, _+_, _*_, _<_, _≤_};
 ghost use lib.ListN.{length};
 ghost use Rattle.files_sections.specs.declared.sections.Section.the-variants.{States};
 ghost use Rattle.files_sections.specs.Sections.{widthOf};
-ghost use Rattle.files_summary.specs.Entries.{Holds};
-ghost use Rattle.files_summary.specs.Changes.{refuse, lentRefusal, appendRefusal, withdrawRefusal, refused, changed};
+ghost use Rattle.files_summary.specs.Entries.{Holds, centreOf};
+ghost use Rattle.files_summary.specs.Changes.{refuse, lentRefusal, appendRefusal, withdrawRefusal, stateAt, refused, changed};
 ghost use Rattle.files_summary.specs.Changes.{appendedTo, withdrawnFrom, appendOf, appendRun, withdrawOf, withdrawRun};
 use crate::entries::Summary;
 use crate::entries::entry_of;
@@ -55,6 +55,14 @@ fn append_refusal(state: &[u64], words: usize, count: u64, centres: u64, listed:
     )
 }
 
+// The number of a state's centre.
+fn centre_at(states: &[u64], which: usize) -> u64
+    requires { ⌜ suc which * widthOf States ≤ length (now states) ⌝ }
+    ensures { λ r. ⌜ r ≡ centreOf (stateAt (now (states .entry)) which) ⌝ }
+{
+    states[which * STATE_WORDS as usize + STATE_CENTRE]
+}
+
 // 27, 41, then 42 where the state to withdraw is not there, and 24 where its centre is not.
 fn withdraw_refusal(which: u64, states: &[u64], count: u64, centres: u64, listed: bool) -> u64
     ensures { λ r. ⌜ r ≡ withdrawRefusal which (now (states .entry)) count centres listed ⌝ }
@@ -66,8 +74,7 @@ fn withdraw_refusal(which: u64, states: &[u64], count: u64, centres: u64, listed
     if which >= count {
         return 42;
     }
-    let has_centre = states[which as usize * STATE_WORDS as usize + STATE_CENTRE] < centres;
-    refuse(has_centre, 24, 0)
+    refuse(centre_at(states, which as usize) < centres, 24, 0)
 }
 
 // A refused change.
@@ -159,7 +166,7 @@ pub fn withdraw_state(
     if number != 0 {
         return refused(number, count);
     }
-    let centre = states[which as usize * STATE_WORDS as usize + STATE_CENTRE];
+    let centre = centre_at(states, which as usize);
     move_down(states, count as usize, which as usize);
     changed(states, count - 1, centre)
 }

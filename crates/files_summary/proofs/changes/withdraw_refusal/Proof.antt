@@ -7,9 +7,7 @@ use borrow.Author.Needs.{needs}
 use borrow.Author.Tests.{lt-ltb, le-ltb}
 use lib.Dec.{ltb}
 use lib.ListN.{length}
-use Rattle.files_sections.specs.Sections.{stateCentre}
 use Rattle.files_summary.specs.Changes.{refuse}
-use Rattle.files_summary.proofs.EntryLaws.{word-of-state}
 use Rattle.files_summary.proofs.RefusalLaws.{Lent, lent-well, withdraw-lent, withdraw-by}
 use Rattle.files_summary.proofs.changes.withdraw_refusal.Statement.{statement}
 use Rattle.files_summary.proofs.changes.withdraw_refusal.Tie as tie
@@ -34,30 +32,19 @@ returns-2 c =
     let a = c .before .before .before .before .args in
     withdraw-by (a .which) (a .states .now) (a .count) (a .centres) (a .listed) false (good (c .before)) (le-ltb (a .which) (a .count) (c .if2 .taken))
 
-cast-has-centre : tie.Need-cast-has-centre
-cast-has-centre c = search needs
-
-mul-has-centre : tie.Need-mul-has-centre
-mul-has-centre c = let g = good (c .before) in omega (arith, c .if2 .left, g .few)
-
-add-has-centre : tie.Need-add-has-centre
-add-has-centre c = let g = good (c .before) in omega (arith, c .if2 .left, g .few)
-
-mul-has-centre-2 : tie.Need-mul-has-centre-2
-mul-has-centre-2 c = let g = good (c .before) in omega (arith, c .if2 .left, g .few)
-
-shared-slice-read-has-centre : tie.Need-shared-slice-read-has-centre
-shared-slice-read-has-centre c = let g = good (c .before .before) in omega (arith, c .before .if2 .left, g .few, g .whole)
+centre-at-requires : tie.Need-centre-at-requires
+centre-at-requires c κs = let g = good (c .before) in omega (arith, c .if2 .left, g .few, g .whole)
 
 refuse-requires : tie.Need-refuse-requires
 refuse-requires c κs = search needs
 
 returns-3 : tie.Need-returns-3
 returns-3 c =
-    let test = c .before .before in
+    let read = c .before in
+    let test = read .before in
     let a = test .before .before .before .before .args in
     c .refuse .ensures
-    ∙ ap (λ (n : ℕ). refuse (ltb n (a .centres)) 24 0) (sym (word-of-state (a .states .now) (a .which) stateCentre (omega arith)))
+    ∙ ap (λ (n : ℕ). refuse (ltb n (a .centres)) 24 0) (read .centre-at .ensures)
     ∙ withdraw-by (a .which) (a .states .now) (a .count) (a .centres) (a .listed) true (good (test .before)) (lt-ltb (a .which) (a .count) (test .if2 .left))
 
 pub withdraw-refusal-spec : {M : Type 1} → statement M
@@ -67,10 +54,6 @@ withdraw-refusal-spec =
     lent-refusal-requires
     returns
     returns-2
-    cast-has-centre
-    mul-has-centre
-    add-has-centre
-    mul-has-centre-2
-    shared-slice-read-has-centre
+    centre-at-requires
     refuse-requires
     returns-3)

@@ -2,8 +2,6 @@
 use mathlib.Core.Path.{sym, _∙_}
 use native.Mathlib.Omega.{arith}
 use borrow.Author.Needs.{needs}
-use Rattle.files_sections.specs.Sections.{stateCentre}
-use Rattle.files_summary.proofs.EntryLaws.{word-of-state}
 use Rattle.files_summary.proofs.RefusalLaws.{Withdrawable, withdrawable}
 use Rattle.files_summary.proofs.ChangeLaws.{withdraw-refused, withdraw-made}
 use Rattle.files_summary.proofs.changes.withdraw_state.Statement.{statement}
@@ -30,30 +28,18 @@ good c =
     let a = c .before .before .before .before .args in
     withdrawable (a .which) (a .states .now) (a .count) (a .centres) (a .listed) (sym (c .before .withdraw-refusal .ensures) ∙ c .if1 .left)
 
-cast-centre : tie.Need-cast-centre
-cast-centre c = search needs
-
-mul-centre : tie.Need-mul-centre
-mul-centre c = let g = good c in omega (arith, g .there, g .lent .few)
-
-add-centre : tie.Need-add-centre
-add-centre c = let g = good c in omega (arith, g .there, g .lent .few)
-
-mul-centre-2 : tie.Need-mul-centre-2
-mul-centre-2 c = let g = good c in omega (arith, g .there, g .lent .few)
-
-slice-read-centre : tie.Need-slice-read-centre
-slice-read-centre c = let g = good (c .before) in omega (arith, g .there, g .lent .few, g .lent .whole)
+centre-at-requires : tie.Need-centre-at-requires
+centre-at-requires c κs = let g = good (c .before) in omega (arith, g .there, g .lent .few, g .lent .whole)
 
 move-down-requires : tie.Need-move-down-requires
-move-down-requires c κs = let g = good (c .before .before) in (g .there, omega (arith, g .lent .few, g .lent .whole))
+move-down-requires c κs = let g = good (c .before .before .before) in (g .there, omega (arith, g .lent .few, g .lent .whole))
 
 sub-changed : tie.Need-sub-changed
-sub-changed c = let g = good (c .before .before .before .before .before .before) in omega (arith, g .there)
+sub-changed c = let g = good (c .before .before .before .before .before .before .before) in omega (arith, g .there)
 
 changed-requires : tie.Need-changed-requires
 changed-requires c κs =
-    let g = good (c .before .before .before .before .before .before) in
+    let g = good (c .before .before .before .before .before .before .before) in
     (omega (arith, g .lent .few), omega (arith, g .lent .whole, g .lent .few, c .before .before .states .given))
 
 same-length-2 : tie.Need-same-length-2
@@ -62,11 +48,12 @@ same-length-2 c = search needs
 returns-2 : tie.Need-returns-2
 returns-2 c =
     let moved = c .before .before .before .before in
-    let left = moved .before .before .before in
+    let read = moved .before .before in
+    let left = read .before .before in
     let judged = left .before in
     let a = judged .before .before .before .args in
     withdraw-made (a .which) (a .states .now) (a .count) (a .centres) (a .listed) (sym (judged .withdraw-refusal .ensures) ∙ left .if1 .left)
-    (moved .move-down .ensures) (sym (word-of-state (a .states .now) (a .which) stateCentre (omega arith))) (c .changed .ensures)
+    (moved .move-down .ensures) (read .centre-at .ensures) (c .changed .ensures)
 
 pub withdraw-state-spec : {M : Type 1} → statement M
 withdraw-state-spec =
@@ -76,11 +63,7 @@ withdraw-state-spec =
     refused-requires
     same-length
     returns
-    cast-centre
-    mul-centre
-    add-centre
-    mul-centre-2
-    slice-read-centre
+    centre-at-requires
     move-down-requires
     sub-changed
     changed-requires
