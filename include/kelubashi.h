@@ -311,7 +311,7 @@ enum {
     KELUBASHI_ENTRY_LATEST = 3,     /* the word of the latest */
 
     KELUBASHI_ENTRY = 4,            /* words of an entry */
-    KELUBASHI_STATE_RUN = 4000,        /* words of the run: KELUBASHI_STATE for each of KELUBASHI_MOST_STATES */
+    KELUBASHI_STATE_RUN = 4000,     /* words of the run: KELUBASHI_STATE for each of KELUBASHI_MOST_STATES */
 
     KELUBASHI_CHANGE_REFUSAL = 0,   /* the status once more */
     KELUBASHI_CHANGE_COUNT = 1,     /* states in use after the call; under a refusal the count given */
