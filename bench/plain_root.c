@@ -5,14 +5,15 @@
 #include "series.h"
 
 /*
-**  The root of m * 2^54 rounded down, from 2^52 <= m < 2^54: 54 steps, one digit each. `twice` is
-**  twice the digits so far, and `left` what their square leaves of m, both moved along with the digit.
+**  The root of m * 2^54 rounded down, from 2^52 <= m < 2^54. Its first digit, of weight 2^53, is 1; a step finds
+**  each of the 53 behind it. `twice` is twice the digits so far, and `left` what their square leaves of m, both
+**  moved along with the digit.
 */
 static uint64_t root_digits(uint64_t m)
 {
-    uint64_t left = 2 * m, twice = 0, digit;
+    uint64_t left = 4 * (m - UNIT), twice = 4 * UNIT, digit;
 
-    for (digit = UNIT * 2; digit > 0; digit /= 2) {
+    for (digit = UNIT; digit > 0; digit /= 2) {
         uint64_t take = twice + digit;
         if (take <= left) {
             left -= take;
@@ -29,14 +30,12 @@ static uint64_t packed_root(uint64_t m, uint64_t e)
     return (e / 2 + 485) * UNIT + (root_digits(m << (e & 1)) + 1) / 2;
 }
 
-/* A subnormal's digits doubled until there are 53 of them. */
+/* A subnormal's digits moved up by their leading zeros, so that there are 53 of them. */
 static uint64_t subnormal_root(uint64_t digits)
 {
-    uint64_t e = 52;
+    unsigned up = (unsigned)__builtin_clzll(digits) - 11;
 
-    for (; digits < UNIT; digits *= 2)
-        e--;
-    return packed_root(digits, e);
+    return packed_root(digits << up, 52 - up);
 }
 
 uint64_t plain_root(uint64_t word, uint64_t *answer, size_t n)

@@ -1,5 +1,6 @@
 #!/bin/sh
-# Prints the table of the rows given (root, propagate, partials, results, summary, append, withdraw), whose programs are in build/bench/, and how two of them grow.
+# Prints the table of the rows given (root, propagate, partials, results, summary, append, withdraw), whose programs are in build/bench/, how two of them grow,
+# and the root by classes of numbers.
 #
 # Instructions are counted under the emulator on every machine, so that all count alike. Time is measured
 # on x86-64 alone: under an emulator it says nothing of a station's machine.
@@ -138,6 +139,19 @@ growth() {
     done
 }
 
+# MEASURE TITLE ROW: the root's columns by classes of numbers.
+classes() {
+    [ "$3" = root ] || return 0
+    echo
+    echo "| roots, $2 | library | plain C | by the processor |"
+    echo '|---|---:|---:|---:|'
+    for class in 'smallest subnormals' 'middle subnormals' 'largest subnormals' 'small normals' 'plain normals'; do
+        for set in "$class, squares" "$class, others"; do
+            echo "| $set | $(per_call "$1" root "$set, library") | $(per_call "$1" root "$set, plain") | $(per_call "$1" root "$set, processor") |"
+        done
+    done
+}
+
 choose
 for row in "$@"; do
     [ -x "$build/bench/$row" ] || fail "there is no build/bench/$row: make bench builds it"
@@ -146,7 +160,11 @@ done
 table instructions_of 'instructions per call' "$@"
 for row in "$@"; do
     growth instructions_of 'instructions per call' "$row"
+    classes instructions_of 'instructions per call' "$row"
 done
 if [ "$machine" = x86_64 ]; then
     table nanoseconds_of 'nanoseconds per call' "$@"
+    for row in "$@"; do
+        classes nanoseconds_of 'nanoseconds per call' "$row"
+    done
 fi

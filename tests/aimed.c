@@ -106,6 +106,17 @@ void small_sum(uint64_t *words)
         put_at(words, TAU, any_sign(around(-1074, -500)));
 }
 
+/* T-03, the root of a subnormal of every length; mu and tau are of the distance's scale, so that there is a search. */
+void subnormal_sum(uint64_t *words)
+{
+    double distance = around(-537, -511);
+    double mu = around(-540, -508);
+    double speed = around(-4, 4);
+    double tau = any_sign(around(-540, -508));
+
+    thrown(words, mu, distance, speed, tau);
+}
+
 /* Refusal 4 by the sum, by v squared, by (2 mu)/r0, by alpha and by H; and the edge of each. */
 void large_figures(uint64_t *words)
 {

@@ -15,6 +15,7 @@ void any_scales(uint64_t *words);
 void one_word(uint64_t *words);
 void not_finite(uint64_t *words);
 void small_sum(uint64_t *words);
+void subnormal_sum(uint64_t *words);
 void large_figures(uint64_t *words);
 void sigma_alone(uint64_t *words);
 void length_one(uint64_t *words);

@@ -11,6 +11,7 @@
 
 enum aim {
     SUM, SIGMA, SPEED, PULL, ALPHA, INTERVAL,
+    EVEN_SUM, ODD_SUM, FEW_DIGITS,
     SUBNORMAL_H, H_AT_ZERO, ALPHA_ZERO,
     L_AT_ONE, L_NOT_FINITE, R_NAN, R_SHORT, R_PAST, READABLE_NO_MORE,
     FOUND_AT_ZERO, FOUND_AT_MINUS_ZERO, EXACT_OUTWARD, EXACT_INWARD,
@@ -23,6 +24,7 @@ enum aim {
 
 static const char *const names[AIMS] = {
     "4 by the sum alone", "4 by sigma0 alone", "4 by v squared", "4 by (2 mu)/r0", "4 by alpha alone", "4 by H alone",
+    "subnormal sum of an even power", "subnormal sum of an odd power", "sum of eight digits or fewer",
     "subnormal H", "H at place 0", "alpha zero",
     "L of size 1", "L not finite", "R NaN", "R infinite and short", "R infinite and past", "6 after a past point",
     "psi +0 for a tau above zero", "psi -0 for a tau below zero", "exact outward", "exact inward",
@@ -35,10 +37,29 @@ static const char *const names[AIMS] = {
 
 static uint64_t seen[AIMS];
 
+/* The number whose root is r0. */
+static double sum_of(const double *e)
+{
+    return e[X] * e[X] + e[Y] * e[Y] + e[Z] * e[Z];
+}
+
+/* A sum that is subnormal, where there is a search: its root tells in the points, as no such r0 has an acceleration (8). */
+static void see_sum(uint64_t sum)
+{
+    int digits = 0;
+
+    if (sum == 0 || sum >= STEP)
+        return;
+    for (; sum > 0; sum /= 2)
+        digits++;
+    seen[digits % 2 == 1 ? EVEN_SUM : ODD_SUM]++;
+    seen[FEW_DIGITS] += digits <= 8;
+}
+
 /* Which figure alone brings refusal 4, in terms of the rules' own formulas. */
 static void see_four(const double *e)
 {
-    double sum = e[X] * e[X] + e[Y] * e[Y] + e[Z] * e[Z], r0 = 0;
+    double sum = sum_of(e), r0 = 0;
     double sigma = e[X] * e[VX] + e[Y] * e[VY] + e[Z] * e[VZ];
     double square = e[VX] * e[VX] + e[VY] * e[VY] + e[VZ] * e[VZ];
     double pull, h;
@@ -165,6 +186,7 @@ void aims_see(const uint64_t *words, uint64_t propagated, uint64_t with_partials
         see_four(e);
     if (sec_start(e, &s) != 0 || sec_zero(s.tau))
         return;
+    see_sum(sec_word(sum_of(e)));
     seen[SUBNORMAL_H] += sec_word(s.h) != 0 && sec_word(s.h) < STEP;
     seen[H_AT_ZERO] += sec_word(s.h) == 0;
     seen[ALPHA_ZERO] += sec_zero(s.alpha);

@@ -21,6 +21,7 @@ static const struct state_family rows[] = {
     { { "one word of any bits", 5 }, 0, one_word },
     { { "not finite", 2 }, 0, not_finite },
     { { "small sums", 2 }, 1, small_sum },
+    { { "subnormal sums", 2 }, 1, subnormal_sum },
     { { "large figures", 3 }, 1, large_figures },
     { { "sigma0 alone", 1 }, 1, sigma_alone },
     { { "L at 1", 2 }, 1, length_one },

@@ -21,7 +21,7 @@
 #define INFINITE (2047 * UNIT)
 #define LENT UINT64_C(0x5EED5EED5EED5EED)     /* what a lent word holds before a call */
 
-static uint64_t asked, told, rooted, negative;
+static uint64_t asked, told, rooted, subnormal, negative;
 
 /* The next word of a fixed sequence (splitmix64). */
 static uint64_t any_word(void)
@@ -71,6 +71,7 @@ static void ask(uint64_t word)
     } else {
         expect(word, 0, kelubashi_word(sqrt(kelubashi_figure(word))));
         rooted++;
+        subnormal += word < UNIT;
     }
 }
 
@@ -120,16 +121,18 @@ static void zeros(void)
     tell("zeros");
 }
 
-/* The least, the greatest and others of each length from 1 to 52 binary digits. */
+/* Every one of up to 18 binary digits, and of each length beyond the least, the greatest and others. */
 static void subnormals(void)
 {
-    uint64_t top;
+    uint64_t word, top;
     int i;
 
-    for (top = 1; top < UNIT; top *= 2) {
+    for (word = 1; word < UINT64_C(1) << 18; word++)
+        ask_both(word);
+    for (top = word; top < UNIT; top *= 2) {
         ask_both(top);
         ask_both(2 * top - 1);
-        for (i = 0; i < 3000; i++)
+        for (i = 0; i < 23000; i++)
             ask_both(top + any_below(top));
     }
     tell("subnormals");
@@ -277,6 +280,7 @@ int main(void)
     infinities();
     nans();
     counts();
-    printf(" none differs: %" PRIu64 " roots as the processor's, %" PRIu64 " negatives refused\n", rooted, negative);
-    return rooted < 1000000;
+    printf(" none differs: %" PRIu64 " roots as the processor's, %" PRIu64 " of them of subnormals, %" PRIu64 " negatives refused\n",
+           rooted, subnormal, negative);
+    return subnormal < 1000000 || rooted < 2 * subnormal;
 }

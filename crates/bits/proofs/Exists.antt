@@ -1,11 +1,12 @@
 -- Every finite word above zero has a nearest root, and `nearestWord` computes it.
 use mathlib.Core.Path.{_≡_, subst}
 use Prim.Native.Nat.{ℕ, zero, suc, _+_, _*_, _/_, _%_, _^_, _≤_, _<_}
+use native.Mathlib.Nat.{le-trans}
 use native.Mathlib.Decide.{decLe, decLt}
 use native.Mathlib.Omega.{arith}
 use Rattle.bits.specs.Words.{infinity, fieldOf, digitsOf}
 use Rattle.bits.specs.Root.{NearestRoot, nearestWord}
-use Rattle.bits.proofs.Doubling.{normalises}
+use Rattle.bits.proofs.Leading.{moved-up}
 use Rattle.bits.proofs.Nearest.{packed}
 use Rattle.bits.proofs.Answers.{Packed, subnormal-nearest, normal-nearest}
 use Rattle.bits.proofs.Computed.{is-nearest-word}
@@ -34,9 +35,9 @@ some-root : (b : ℕ) → 0 < b → b < infinity → (r : ℕ) × NearestRoot b 
 some-root b p h = elim (decLt b (2 ^ 52)) [
   | yes s ↦
       let t : digitsOf b ≡ b = omega arith in
-      let n = normalises (digitsOf b) (omega arith) (omega arith) in
-      let k = packs (n .0) (n .1) (n .2 .1) (n .2 .2) (omega (arith, n .2 .3)) in
-      (k .0, subnormal-nearest b (k .0) p s (n .0) (n .1) (n .2 .0) (k .1))
+      let n = moved-up (digitsOf b) (omega arith) (omega arith) in
+      let k = packs _ _ (n .1) (n .2) (le-trans (n .3) (omega arith)) in
+      (k .0, subnormal-nearest b (k .0) p s _ _ (n .0) (k .1))
   | no s ↦
       let k = packs (digitsOf b + 2 ^ 52) (fieldOf b + 51) (omega arith) (omega arith) (omega arith) in
       (k .0, normal-nearest b (k .0) (omega arith) h (k .1))

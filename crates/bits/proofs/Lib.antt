@@ -1,6 +1,6 @@
 pub mod Units
 pub mod Digits
-pub mod Doubling
+pub mod Leading
 pub mod Nearest
 pub mod Answers
 pub mod Computed

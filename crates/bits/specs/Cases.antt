@@ -28,6 +28,24 @@ largest : Gives 0x7fef_ffff_ffff_ffff 0 0x5fef_ffff_ffff_ffff
 unfolding rootWordOf
 largest = (refl, refl)
 
+-- Subnormals by their leading zeros: the second from zero, whose power is odd, so that its root has the digits of the root of 2; 2^-1048; the largest,
+-- 2^-1022 less one digit; and 2^-1022, the first normal number.
+second-from-zero : Gives 2 0 0x1e66_a09e_667f_3bcd
+unfolding rootWordOf
+second-from-zero = (refl, refl)
+
+middle-subnormal : Gives 0x0000_0000_0400_0000 0 0x1f30_0000_0000_0000
+unfolding rootWordOf
+middle-subnormal = (refl, refl)
+
+largest-subnormal : Gives 0x000f_ffff_ffff_ffff 0 0x1fff_ffff_ffff_ffff
+unfolding rootWordOf
+largest-subnormal = (refl, refl)
+
+first-normal : Gives 0x0010_0000_0000_0000 0 0x2000_0000_0000_0000
+unfolding rootWordOf
+first-normal = (refl, refl)
+
 infinite : Gives 0x7ff0_0000_0000_0000 9 0
 unfolding rootWordOf
 infinite = (refl, refl)

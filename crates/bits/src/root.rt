@@ -1,6 +1,6 @@
 // The square root: the double nearest to the exact root, digit by digit over whole numbers.
 ghost use mathlib.Core.Path.{_≡_};
-ghost use Prim.Native.Nat.{ℕ, _+_, _*_, _^_, _≤_, _<_};
+ghost use Prim.Native.Nat.{ℕ, _+_, _-_, _*_, _^_, _≤_, _<_};
 ghost use Rattle.bits.specs.Words.{units};
 ghost use Rattle.bits.specs.Root.{NearestRoot, RootAnswer, rootRefusal, rootOf};
 use super::words::FIELD;
@@ -24,47 +24,63 @@ struct Scaled {
     power: u64,
 }
 
-// The root of m * 2^54 rounded down, a binary digit a step and, for speed, two steps a turn: those of weight 2 * `digit` and `digit`. `twice` is twice the
-// root so far, q, and what q^2 leaves of m * 2^54 is `left` times the next weight d: to add d to q takes (twice + d) * d of it.
-fn root_digits(m: u64) -> u64
-    requires { ⌜ m < 2 ^ 54 ⌝ }
-    ensures { λ q. ⌜ (q * q ≤ m * 2 ^ 54) × (m * 2 ^ 54 < (q + 1) * (q + 1)) ⌝ }
-{
-    let mut left = 2 * m;
-    let mut twice: u64 = 0;
-    let mut digit = FIELD;
-    while 0 < digit {
-        let first = twice + 2 * digit;
-        if first <= left {
-            left -= first;
-            twice = first + 2 * digit;
-        }
-        left *= 2;
-        let second = twice + digit;
-        if second <= left {
-            left -= second;
-            twice = second + digit;
-        }
-        left *= 2;
-        digit /= 4;
-    }
-    twice / 2
+// What is known of the root of m * 2^54 by its first digits: `twice` is twice the root so far, q, and what q^2 leaves of m * 2^54 is `left` times the next
+// digit's weight.
+struct Known {
+    left: u64,
+    twice: u64,
 }
 
-// A subnormal's digits doubled until there are 53 of them, and the power of two that makes up for it.
+// A step: the digit of weight d is set where there is enough left, since to add d to q takes (2 q + d) * d.
+fn next_digit(known: Known, digit: u64) -> Known
+    requires { ⌜ (known .left < 2 ^ 63) × (known .twice + 2 * digit < 2 ^ 64) ⌝ }
+    ensures set { λ r. ⌜ (known .twice + digit ≤ known .left → (r .left ≡ (known .left - (known .twice + digit)) * 2) × (r .twice ≡ known .twice + digit + digit)) ⌝ }
+    ensures clear { λ r. ⌜ (known .left < known .twice + digit → (r .left ≡ known .left * 2) × (r .twice ≡ known .twice)) ⌝ }
+{
+    let take = known.twice + digit;
+    if take <= known.left {
+        return Known {
+            left: (known.left - take) * 2,
+            twice: take + digit,
+        };
+    }
+    Known {
+        left: known.left * 2,
+        twice: known.twice,
+    }
+}
+
+// The root of m * 2^54 rounded down, a binary digit a step. The first digit that can be set is that of weight 2^53, and m is large enough that it is, so the
+// steps begin behind it. For speed there are four a turn, those of weight 8 * `digit` to `digit`.
+fn root_digits(m: u64) -> u64
+    requires { ⌜ (2 ^ 52 ≤ m) × (m < 2 ^ 54) ⌝ }
+    ensures { λ q. ⌜ (q * q ≤ m * 2 ^ 54) × (m * 2 ^ 54 < (q + 1) * (q + 1)) ⌝ }
+{
+    let first = Known {
+        left: (m - FIELD) * 4,
+        twice: FIELD * 4,
+    };
+    let mut known = next_digit(first, FIELD);
+    let mut digit = FIELD / 16;
+    while 0 < digit {
+        known = next_digit(known, 8 * digit);
+        known = next_digit(known, 4 * digit);
+        known = next_digit(known, 2 * digit);
+        known = next_digit(known, digit);
+        digit /= 16;
+    }
+    known.twice / 2
+}
+
+// A subnormal's digits moved up by their leading zeros, all but the 11 above 53 digits, and the power of two that makes up for it.
 fn normalised(digits: u64) -> Scaled
     requires { ⌜ (0 < digits) × (digits < 2 ^ 52) ⌝ }
     ensures { λ r. ⌜ (r .«digits» * 2 ^ r .power ≡ digits * 2 ^ 52) × (2 ^ 52 ≤ r .«digits») × (r .«digits» < 2 ^ 53) × (r .power ≤ 52) ⌝ }
 {
-    let mut m = digits;
-    let mut e: u64 = 52;
-    while m < FIELD {
-        m = m * 2;
-        e -= 1;
-    }
+    let up = u64::leading_zeros(digits) as u64 - 11;
     Scaled {
-        digits: m,
-        power: e,
+        digits: digits << up,
+        power: 52 - up,
     }
 }
 

@@ -1,38 +1,31 @@
--- The invariant: the digits times the power stay what they were, and there are at most 53 of them.
+-- The law `moved-up` of Leading.antt, at the argument's leading zeros; 53 digits fit the word.
 use mathlib.Core.Path.{_≡_}
-use Prim.Native.Nat.{_*_, _^_, _≤_, _<_}
+use Prim.Native.Nat.{_*_, _%_, _^_}
+use native.Mathlib.Nat.{lt-of-le-of-lt}
 use native.Mathlib.Omega.{arith}
-use Rattle.bits.proofs.Doubling.{left-over, doubled}
+use lib.Count.{leading-le}
+use Rattle.bits.proofs.Leading.{up, zeros-enough, up-small, moved-up}
 use Rattle.bits.proofs.root.normalised.Statement.{statement}
 use Rattle.bits.proofs.root.normalised.Tie as tie
 
-abbrev Inv-loop : tie.InvT-loop
-Inv-loop t m₀ e₀ m e = (m * 2 ^ e ≡ t * 2 ^ 52) × (0 < m) × (m < 2 ^ 53) × (e ≤ 52)
+cast-up : tie.Need-cast-up
+cast-up c = record { fits = lt-of-le-of-lt (leading-le 64 _) (omega arith) }
 
-abbrev μ-loop : tie.MeasureT-loop
-μ-loop t m₀ e₀ m e = e
+sub-up : tie.Need-sub-up
+sub-up c = zeros-enough (omega arith) (omega arith)
 
-some : (c : tie.In-loop Inv-loop μ-loop) → 1 ≤ c .before .loop .e
-some c = left-over _ _ _ (c .before .loop .inv .0) (c .before .before .pre .0) (c .loop-test .taken)
+shl-t4 : tie.Need-shl-t4
+shl-t4 c = lt-of-le-of-lt (up-small (omega arith) (omega arith)) (omega arith)
 
-loop-holds : tie.Need-loop-holds Inv-loop μ-loop
-loop-holds c = omega arith
+sub-t5 : tie.Need-sub-t5
+sub-t5 c = up-small (omega arith) (omega arith)
 
-mul-m : tie.Need-mul-m Inv-loop μ-loop
-mul-m c = omega arith
-
-sub-e : tie.Need-sub-e Inv-loop μ-loop
-sub-e c = some c
-
-loop-less : tie.Need-loop-less Inv-loop μ-loop
-loop-less c = omega (arith, some c)
-
-loop-again : tie.Need-loop-again Inv-loop μ-loop
-loop-again c = omega (arith, doubled (c .before .loop .m) (c .before .loop .e) (some c))
-
-returns : tie.Need-returns Inv-loop μ-loop
-returns c = omega arith
+returns : tie.Need-returns
+returns c =
+    let t = c .args .digits in
+    let n = moved-up t (omega arith) (omega arith) in
+    let w : (t * 2 ^ up t) % 2 ^ 64 ≡ t * 2 ^ up t = omega (arith, n .2) in
+    rw w n
 
 pub normalised-spec : {M : Type 1} → statement M
-normalised-spec =
-    tie.close (tie.spec Inv-loop μ-loop loop-holds mul-m sub-e loop-less loop-again returns)
+normalised-spec = tie.close (tie.spec cast-up sub-up shl-t4 sub-t5 returns)

@@ -1,75 +1,77 @@
--- The invariant: `twice` has the digits above the turn's two, and `left` what their square leaves.
+-- The invariant: `known` has the digits above the turn's four, and what their square leaves.
 use Prim.Native.Nat.{_*_}
 use native.Mathlib.Omega.{arith}
-use mathlib.Core.Logic.{⊎-elim}
-use Rattle.bits.proofs.Digits.{Prefix, Turn, start, first, set-one, set-none, small, again, finished}
+use Rattle.bits.proofs.Digits.{Prefix, Turn, step, first-set, start, begun, small, again, finished}
 use Rattle.bits.proofs.root.root_digits.Statement.{statement}
 use Rattle.bits.proofs.root.root_digits.Tie as tie
 
 abbrev Inv-loop : tie.InvT-loop
-Inv-loop m left₀ twice₀ digit₀ left twice digit = Turn m left twice digit
+Inv-loop m known₀ digit₀ known digit = Turn m (known .left) (known .twice) digit
 
 abbrev μ-loop : tie.MeasureT-loop
-μ-loop m left₀ twice₀ digit₀ left twice digit = digit
+μ-loop m known₀ digit₀ known digit = digit
 
-mul-left : tie.Need-mul-left Inv-loop μ-loop
-mul-left c = omega arith
+sub-t5 : tie.Need-sub-t5 Inv-loop μ-loop
+sub-t5 c = omega arith
+
+mul-t6 : tie.Need-mul-t6 Inv-loop μ-loop
+mul-t6 c = omega arith
+
+mul-t7 : tie.Need-mul-t7 Inv-loop μ-loop
+mul-t7 c = omega arith
+
+next-digit-requires : tie.Need-next-digit-requires Inv-loop μ-loop
+next-digit-requires c κs = omega arith
 
 loop-holds : tie.Need-loop-holds Inv-loop μ-loop
-loop-holds c = start _ (c .pre)
+loop-holds c =
+    start (step (omega arith) (first-set _ (c .before .pre .0) (c .before .pre .1)) (c .next-digit .ensures .0) (c .next-digit .ensures .1))
 
-begun : (c : tie.In-loop Inv-loop μ-loop) → Prefix (c .before .before .args .m) (2 * (2 * c .before .loop .digit)) (c .before .loop .left) (c .before .loop .twice)
-begun c = first (c .before .loop .inv) (c .loop-test .taken)
+-- What is known at a turn's start, and after each of its first three steps.
+known-1 : (c : tie.In-loop Inv-loop μ-loop) → Prefix (c .before .before .before .args .m) (16 * c .before .loop .digit) (c .before .loop .known .left) (c .before .loop .known .twice)
+known-1 c = begun (c .before .loop .inv) (c .loop-test .taken)
 
-mul-first : tie.Need-mul-first Inv-loop μ-loop
-mul-first c = omega (arith, small (begun c))
+known-2 : (c : tie.After-next-digit2 Inv-loop μ-loop) → Prefix (c .before .before .before .before .args .m) (8 * c .before .before .loop .digit) (c .next-digit2 .result .left) (c .next-digit2 .result .twice)
+known-2 c = step (omega arith) (known-1 (c .before)) (c .next-digit2 .ensures .0) (c .next-digit2 .ensures .1)
 
-add-first : tie.Need-add-first Inv-loop μ-loop
-add-first c = omega (arith, small (begun c))
+known-3 : (c : tie.After-next-digit3 Inv-loop μ-loop) → Prefix (c .before .before .before .before .before .args .m) (4 * c .before .before .before .loop .digit) (c .next-digit3 .result .left) (c .next-digit3 .result .twice)
+known-3 c = step (omega arith) (known-2 (c .before)) (c .next-digit3 .ensures .0) (c .next-digit3 .ensures .1)
 
-mul-twice : tie.Need-mul-twice Inv-loop μ-loop
-mul-twice c = omega (arith, small (begun (c .before)))
+known-4 : (c : tie.After-next-digit4 Inv-loop μ-loop) → Prefix (c .before .before .before .before .before .before .args .m) (2 * c .before .before .before .before .loop .digit) (c .next-digit4 .result .left) (c .next-digit4 .result .twice)
+known-4 c = step (omega arith) (known-3 (c .before)) (c .next-digit4 .ensures .0) (c .next-digit4 .ensures .1)
 
-add-twice : tie.Need-add-twice Inv-loop μ-loop
-add-twice c = omega (arith, small (begun (c .before)))
+mul-next-digit : tie.Need-mul-next-digit Inv-loop μ-loop
+mul-next-digit c = omega (arith, small (known-1 c))
 
-halfway : (c : tie.Joined1 Inv-loop μ-loop) → Prefix (c .before .before .before .args .m) (2 * c .before .before .loop .digit) (c .if1 .left * 2) (c .if1 .twice)
-halfway c =
-    ⊎-elim
-    (λ w. rw (w .1, w .2) (set-one (begun (c .before)) (omega arith)))
-    (λ w. rw (w .1, w .2) (set-none (begun (c .before)) (omega arith)))
-    (c .if1 .came)
+next-digit-requires-2 : tie.Need-next-digit-requires-2 Inv-loop μ-loop
+next-digit-requires-2 c κs = omega (arith, small (known-1 c))
 
-mul-left-2 : tie.Need-mul-left-2 Inv-loop μ-loop
-mul-left-2 c = omega (arith, small (halfway (c .before)))
+mul-next-digit-2 : tie.Need-mul-next-digit-2 Inv-loop μ-loop
+mul-next-digit-2 c = omega (arith, small (known-2 c))
 
-add-second : tie.Need-add-second Inv-loop μ-loop
-add-second c = omega (arith, small (halfway (c .before .before)))
+next-digit-requires-3 : tie.Need-next-digit-requires-3 Inv-loop μ-loop
+next-digit-requires-3 c κs = omega (arith, small (known-2 c))
 
-add-twice-2 : tie.Need-add-twice-2 Inv-loop μ-loop
-add-twice-2 c = omega (arith, small (halfway (c .before .before .before)))
+mul-next-digit-3 : tie.Need-mul-next-digit-3 Inv-loop μ-loop
+mul-next-digit-3 c = omega (arith, small (known-3 c))
 
-ended : (c : tie.Joined2 Inv-loop μ-loop) → Prefix (c .before .before .before .before .before .before .args .m) (c .before .before .before .before .before .loop .digit) (c .if2 .left * 2) (c .if2 .twice)
-ended c =
-    let half = halfway (c .before .before .before) in
-    ⊎-elim
-    (λ w. rw (w .1, w .2) (set-one half (omega arith)))
-    (λ w. rw (w .1, w .2) (set-none half (omega arith)))
-    (c .if2 .came)
+next-digit-requires-4 : tie.Need-next-digit-requires-4 Inv-loop μ-loop
+next-digit-requires-4 c κs = omega (arith, small (known-3 c))
 
-mul-left-3 : tie.Need-mul-left-3 Inv-loop μ-loop
-mul-left-3 c = omega (arith, small (ended (c .before)))
+next-digit-requires-5 : tie.Need-next-digit-requires-5 Inv-loop μ-loop
+next-digit-requires-5 c κs = omega (arith, small (known-4 c))
 
 loop-less : tie.Need-loop-less Inv-loop μ-loop
 loop-less c = omega arith
 
 loop-again : tie.Need-loop-again Inv-loop μ-loop
 loop-again c =
-    let before = c .before .before .before .before .before in
-    again (before .before .loop .inv) (before .loop-test .taken) (ended (c .before))
+    let turn = c .before .before .before .before in
+    again (turn .before .loop .inv) (turn .loop-test .taken)
+    (step (omega arith) (known-4 (c .before)) (c .next-digit5 .ensures .0) (c .next-digit5 .ensures .1))
 
 returns : tie.Need-returns Inv-loop μ-loop
-returns c = finished (c .before .loop .inv) (omega arith)
+returns c = finished (c .before .before .loop .inv) (omega arith)
 
 pub root-digits-spec : {M : Type 1} → statement M
 root-digits-spec =
@@ -77,16 +79,18 @@ root-digits-spec =
     (tie.spec
     Inv-loop
     μ-loop
-    mul-left
+    sub-t5
+    mul-t6
+    mul-t7
+    next-digit-requires
     loop-holds
-    mul-first
-    add-first
-    mul-twice
-    add-twice
-    mul-left-2
-    add-second
-    add-twice-2
-    mul-left-3
+    mul-next-digit
+    next-digit-requires-2
+    mul-next-digit-2
+    next-digit-requires-3
+    mul-next-digit-3
+    next-digit-requires-4
+    next-digit-requires-5
     loop-less
     loop-again
     returns)
