@@ -34,6 +34,9 @@ uint64_t plain_withdraw(uint64_t which, uint64_t *states, size_t words, uint64_t
 uint64_t one_walk_summary(const uint64_t *states, size_t words, uint64_t count, uint64_t centres, uint64_t *list, size_t k,
                           uint64_t *answer, size_t n);
 
+/* The same root by four steps a turn, as in the library. */
+uint64_t fours_root(uint64_t word, uint64_t *answer, size_t n);
+
 /* The same root by the processor's own instruction: what a host could use where its processor is to be trusted. */
 uint64_t processor_root(uint64_t word, uint64_t *answer, size_t n);
 

@@ -17,13 +17,13 @@
 #define COUNT(list) (sizeof (list) / sizeof (list)[0])
 
 static uint64_t (*const calls[])(uint64_t, uint64_t *, size_t) = {
-    kelubashi1_root, plain_root, processor_root, empty_root
+    kelubashi1_root, plain_root, fours_root, processor_root, empty_root
 };
 
 #define CALLS COUNT(calls)
 
 /* The calls' names, alone and over the sets of a class. */
-#define OVER(set) set "library", set "plain", set "processor", set "empty"
+#define OVER(set) set "library", set "plain", set "fours", set "processor", set "empty"
 #define BOTH(class) OVER(class ", squares, "), OVER(class ", others, ")
 
 static const char *const columns[] = {
@@ -117,13 +117,13 @@ static void pass(size_t column)
         calls[column % CALLS](set[i], &answer, 1);
 }
 
-/* Word i of a set, from all that find a root. */
+/* Word i of a set, by all calls but the empty one. */
 static void check_word(size_t set, size_t i)
 {
     uint64_t library, other;
     size_t call;
 
-    for (call = 1; call < 3; call++)
+    for (call = 1; call < CALLS - 1; call++)
         if (kelubashi1_root(sets[set][i], &library, 1) != 0 || calls[call](sets[set][i], &other, 1) != 0 || library != other)
             row_differs("the roots differ", set * WORDS + i);
 }

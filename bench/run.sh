@@ -103,7 +103,7 @@ per_call() {
 # What stands beside a row's two columns.
 beside() {
     case $2 in
-    root) echo "by the processor: $(per_call "$1" root processor)" ;;
+    root) echo "four steps a turn: $(per_call "$1" root fours); by the processor: $(per_call "$1" root processor)" ;;
     propagate) echo "by Newton, no promise: $(per_call "$1" propagate newton)" ;;
     summary) echo "all entries in one walk: $(per_call "$1" summary one_walk)" ;;
     esac
@@ -143,11 +143,15 @@ growth() {
 classes() {
     [ "$3" = root ] || return 0
     echo
-    echo "| roots, $2 | library | plain C | by the processor |"
-    echo '|---|---:|---:|---:|'
+    echo "| roots, $2 | library | plain C | four steps a turn | by the processor |"
+    echo '|---|---:|---:|---:|---:|'
     for class in 'smallest subnormals' 'middle subnormals' 'largest subnormals' 'small normals' 'plain normals'; do
         for set in "$class, squares" "$class, others"; do
-            echo "| $set | $(per_call "$1" root "$set, library") | $(per_call "$1" root "$set, plain") | $(per_call "$1" root "$set, processor") |"
+            figures=
+            for column in library plain fours processor; do
+                figures="$figures $(per_call "$1" root "$set, $column") |"
+            done
+            echo "| $set |$figures"
         done
     done
 }
