@@ -47,7 +47,11 @@ static uint64_t split(double value, int *power)
     return field == 0 ? whole : whole | (uint64_t)1 << 52;
 }
 
-/* The root is nearest: the squares of both midpoints enclose the value. */
+/* The root is nearest: the squares of both midpoints enclose the value, and
+ * never equal it, since they have more digits than a double. Below a power of
+ * two the midpoint is half as far. Both squares are between 2^107 and 2^110,
+ * and so is a value between them: its whole number, below 2^53, moves up by at
+ * least 55 digits, and none of its own comes to stand above the 110. */
 static int nearest(double value, double root)
 {
     int pv, pr, bits;
@@ -56,10 +60,20 @@ static int nearest(double value, double root)
     uint64_t upper = 4 * r + 2;
 
     bits = pv - (2 * pr - 4);
-    if (bits < 0 || bits > 110)
+    if (bits < 55 || bits > 110 || v >> (110 - bits) != 0)
         return 0;
     return below(product(lower, lower), moved_left(v, bits))
         && below(moved_left(v, bits), product(upper, upper));
+}
+
+/* It is the one that is nearest: neither of those beside it is. */
+static int nearest_alone(uint64_t word, uint64_t root)
+{
+    double value = sec_double(word);
+
+    return nearest(value, sec_double(root))
+        && !nearest(value, sec_double(root - 1))
+        && !nearest(value, sec_double(root + 1));
 }
 
 static void check_root(uint64_t word)
@@ -67,7 +81,7 @@ static void check_root(uint64_t word)
     uint64_t answer = KEPT;
 
     check(second_root(word, &answer, 1) == 0, "root refused");
-    check(nearest(sec_double(word), sec_double(answer)), "root not nearest");
+    check(nearest_alone(word, answer), "root not nearest");
 }
 
 static void expect_root(uint64_t word, uint64_t number, uint64_t root,
@@ -111,6 +125,157 @@ static void test_root(void)
     group("root, P1 to P4");
 }
 
+/* ---- roots of small numbers, by whole numbers alone ---- */
+
+/* The word of whole * 2^power, a positive double: what split takes apart. */
+static uint64_t joined(uint64_t whole, int power)
+{
+    for (; whole < (uint64_t)1 << 52 && power > -1074; power--)
+        whole *= 2;
+    return ((uint64_t)(power + 1074) << 52) + whole;
+}
+
+/* A root known beforehand is answered, and is what nearest says too. */
+static void expect_known(uint64_t word, uint64_t root, const char *what)
+{
+    expect_root(word, 0, root, what);
+    check(nearest_alone(word, root), what);
+}
+
+/* nearest takes no root of another sign, power or kind. */
+static void expect_none(uint64_t word, uint64_t root, const char *what)
+{
+    double value = sec_double(word);
+
+    check(!nearest(value, sec_double(0)), what);
+    check(!nearest(value, sec_double(word)), what);
+    check(!nearest(value, sec_double(root | MINUS_ZERO)), what);
+    check(!nearest(value, sec_double(root + ((uint64_t)1 << 52))), what);
+    check(!nearest(value, sec_double(root - ((uint64_t)1 << 52))), what);
+    check(!nearest(value, sec_double(INFINITE_WORD)), what);
+    check(!nearest(value, sec_double(NAN_WORD)), what);
+}
+
+/* A power of four has a power of two as root. From 2^-1022 on, the word above
+ * it has the same, since 1 + 2^-52 is below the square of 1 + 2^-53; the word
+ * below it has the root below, since 1 - 2^-53, or 1 - 2^-52 of a subnormal,
+ * is between the squares of 1 - 3 * 2^-54 and 1 - 2^-54. */
+static void test_powers(void)
+{
+    int power;
+
+    for (power = -537; power < -481; power++) {
+        uint64_t word = joined(1, 2 * power), root = joined(1, power);
+
+        expect_known(word, root, "root of a power of four");
+        expect_none(word, root, "no root of a power of four");
+        if (power >= -511) {
+            expect_known(word + 1, root, "root above a power of four");
+            expect_known(word - 1, root - 1, "root below a power of four");
+        }
+    }
+    group("roots that are powers of two");
+}
+
+/* A leading digit counts however far above the others it stands: nearest does
+ * not take the root of those others. In field 1 it is the one not written. */
+static void test_leading(void)
+{
+    uint64_t leading;
+    int power;
+
+    for (leading = 2; leading >> 53 == 0; leading *= 2)
+        for (power = 0; (uint64_t)1 << (2 * power) < leading; power++) {
+            double value = sec_double(leading + ((uint64_t)1 << (2 * power)));
+
+            check(!nearest(value, sec_double(joined(1, power - 537))),
+                  "leading digit");
+        }
+    group("leading digits");
+}
+
+#define TURNS 4096u
+
+/* How many of the numbers from low to high have a turn: all if they are few. */
+static uint64_t turns(uint64_t low, uint64_t high)
+{
+    return high - low < TURNS ? high - low + 1 : TURNS;
+}
+
+/* Whose turn it is: of many the least, the greatest and others far apart. */
+static uint64_t at_turn(uint64_t turn, uint64_t low, uint64_t high)
+{
+    if (high - low < TURNS)
+        return low + turn;
+    if (turn == 1)
+        return high;
+    return low + turn * 0x9E3779B97F4A7C15u % (high - low + 1);
+}
+
+/* The words of one leading digit, from first to last: thousands of them, and
+ * all with one digit set behind it, or one not set. */
+static void check_binade(uint64_t first, uint64_t last)
+{
+    uint64_t turn, digit;
+
+    for (turn = 0; turn < turns(first, last); turn++)
+        check_root(at_turn(turn, first, last));
+    for (digit = 1; digit <= last - first; digit *= 2) {
+        check_root(first + digit);
+        check_root(last - digit);
+    }
+}
+
+/* Subnormals by their length in binary digits, normals by their field. */
+static void test_binades(void)
+{
+    uint64_t length, field;
+
+    for (length = 1; length <= 52; length++)
+        check_binade((uint64_t)1 << (length - 1), ((uint64_t)1 << length) - 1);
+    group("roots of subnormals, every length");
+    for (field = 1; field <= 60; field++)
+        check_binade(field << 52, ((field + 1) << 52) - 1);
+    group("roots of normals, fields 1 to 60");
+}
+
+/* The squares of numbers from low to high, times 4^power, with their roots,
+ * and the words beside them. */
+static void expect_squares(uint64_t low, uint64_t high, int power)
+{
+    uint64_t turn;
+
+    for (turn = 0; turn < turns(low, high); turn++) {
+        uint64_t a = at_turn(turn, low, high);
+        uint64_t word = joined(a * a, 2 * power);
+
+        expect_known(word, joined(a, power), "root of a small square");
+        if (word != 1)
+            check_root(word - 1);
+        check_root(word + 1);
+    }
+}
+
+/* A subnormal square is the word a * a, with the root a * 2^-537. The squares
+ * of an odd field are whole ones of 53 digits times a power of four, those of
+ * an even field whole ones of 52; 2^51 is between the squares of 47453132 and
+ * 47453133, and 2^53 between those of 94906265 and 94906266. */
+static void test_squares(void)
+{
+    uint64_t middle = (uint64_t)1 << 26;
+    int length, power;
+
+    for (length = 1; length <= 26; length++)
+        expect_squares((uint64_t)1 << (length - 1),
+                       ((uint64_t)1 << length) - 1, -537);
+    group("subnormal squares, words beside them");
+    for (power = -537; power < -507; power++) {
+        expect_squares(middle, 94906265, power);
+        expect_squares(47453133, middle - 1, power + 1);
+    }
+    group("normal squares, words beside them");
+}
+
 /* ---- series ---- */
 
 static void test_series(void)
@@ -139,5 +304,9 @@ static void test_series(void)
 void selftest_root(void)
 {
     test_root();
+    test_powers();
+    test_leading();
+    test_binades();
+    test_squares();
     test_series();
 }
