@@ -6,8 +6,8 @@
 
 /*
 **  The root of m * 2^54 rounded down, from 2^52 <= m < 2^54, by its digits. The first, of weight 2^53, is 1; a step
-**  finds each of the 53 behind it. `twice` is twice the digits so far, and `left` what their square leaves of m, both
-**  moved along with the digit.
+**  finds each of the 53 after it. `twice` is twice the root so far, and what its square leaves of m * 2^54 is `left`
+**  times the next digit's weight.
 */
 struct known {
     uint64_t left, twice;
@@ -60,7 +60,7 @@ static inline uint64_t by_fours(uint64_t m)
 
 typedef uint64_t digits_of(uint64_t m);
 
-/* The word of the root of m * 2^e in units of 2^-1126, m of 53 digits. A carry runs on into the exponent by itself. */
+/* The word of the root of m * 2^e in units of 2^-1126, m of 53 digits. The first digit counts as 1 in the exponent's field. */
 static inline uint64_t packed_root(uint64_t m, uint64_t e, digits_of *root)
 {
     return (e / 2 + 485) * UNIT + (root(m << (e & 1)) + 1) / 2;

@@ -49,10 +49,9 @@ static int usage(const struct row *row)
 {
     size_t i;
 
-    fprintf(stderr, "usage: check | calls | COLUMN [PASSES], the columns being");
+    fprintf(stderr, "usage: check | calls | COLUMN [PASSES], a column being one of\n");
     for (i = 0; row->columns[i] != NULL; i++)
-        fprintf(stderr, " %s", row->columns[i]);
-    fprintf(stderr, "\n");
+        fprintf(stderr, "    %s\n", row->columns[i]);
     return EXIT_FAILURE;
 }
 

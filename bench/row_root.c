@@ -3,7 +3,8 @@
 **
 **  The row's set is 64 words, 56 normal from the whole range of exponents and 8 subnormal. Each class has two sets of 64:
 **  squares, whose root is exact, and others.
-**  A column is a call over the row's set (library), or over another (small normals, squares, library).
+**
+**  A column is named by its call, over the row's set (library), or by set and call (small normals, squares, library).
 */
 #include "kelubashi.h"
 #include "plain.h"
@@ -36,7 +37,8 @@ static const char *const columns[] = {
     NULL
 };
 
-#define SETS (COUNT(columns) / CALLS)
+#define SETS ((COUNT(columns) - 1) / CALLS)
+#define NORMAL_SETS 7     /* from here on, and subnormal ones from 1 on, squares and others by turns */
 
 static uint64_t sets[SETS][WORDS];
 
@@ -62,19 +64,19 @@ static void spread(uint64_t *set)
         set[i] = i < NORMALS ? (1 + i * 37) << 52 | any_digits() >> 12 : any_digits() >> (12 + 6 * (i - NORMALS));
 }
 
-/* The square of a number of half so many digits is a subnormal's word, and so is any number of them. */
+/* A subnormal's word counts in 2^-1074, the square of 2^-537: where it is a square, so is the number. Of so many digits, or one less. */
 static void subnormals(uint64_t *squares, uint64_t *others, unsigned length)
 {
-    uint64_t i, a;
+    unsigned i;
 
     for (i = 0; i < WORDS; i++) {
-        a = any_of(length / 2);
+        uint64_t a = any_of(length / 2);
         squares[i] = a * a;
-        others[i] = any_of(length);
+        others[i] = any_of(length - i % 2);
     }
 }
 
-/* The first squares from 2^-1074 on, and the words behind them. */
+/* The first eight squares from 2^-1074 on, and the words behind them, each eight times. */
 static void smallest(uint64_t *squares, uint64_t *others)
 {
     uint64_t i;
@@ -85,7 +87,7 @@ static void smallest(uint64_t *squares, uint64_t *others)
     }
 }
 
-/* In 64 binades, of which that of 2^least is the first; a square has an even power. */
+/* In 64 binades from that of 2^least on; the squares are those of numbers of 26 digits, two for each power of four. */
 static void normals(uint64_t *squares, uint64_t *others, int least)
 {
     int i;
@@ -117,15 +119,23 @@ static void pass(size_t column)
         calls[column % CALLS](set[i], &answer, 1);
 }
 
+/* Whether a word is of the class that its set has the name of: a square's root has 26 digits at most, and ends in zeros. */
+static int belongs(size_t set, uint64_t word, uint64_t root)
+{
+    return set == 0 || ((set >= NORMAL_SETS) == (word >> 52 > 0) && (set % 2 == 1) == (root << 38 == 0));
+}
+
 /* Word i of a set, by all calls but the empty one. */
 static void check_word(size_t set, size_t i)
 {
-    uint64_t library, other;
+    uint64_t word = sets[set][i], library, other;
     size_t call;
 
     for (call = 1; call < CALLS - 1; call++)
-        if (kelubashi1_root(sets[set][i], &library, 1) != 0 || calls[call](sets[set][i], &other, 1) != 0 || library != other)
+        if (kelubashi1_root(word, &library, 1) != 0 || calls[call](word, &other, 1) != 0 || library != other)
             row_differs("the roots differ", set * WORDS + i);
+    if (!belongs(set, word, library))
+        row_differs("a number stands in another class", set * WORDS + i);
 }
 
 static void check(void)

@@ -24,7 +24,7 @@ enum aim {
 
 static const char *const names[AIMS] = {
     "4 by the sum alone", "4 by sigma0 alone", "4 by v squared", "4 by (2 mu)/r0", "4 by alpha alone", "4 by H alone",
-    "subnormal sum of an even power", "subnormal sum of an odd power", "sum of eight digits or fewer",
+    "subnormal sum of an even power", "subnormal sum of an odd power", "subnormal sum of eight binary digits or fewer",
     "subnormal H", "H at place 0", "alpha zero",
     "L of size 1", "L not finite", "R NaN", "R infinite and short", "R infinite and past", "6 after a past point",
     "psi +0 for a tau above zero", "psi -0 for a tau below zero", "exact outward", "exact inward",
@@ -43,7 +43,7 @@ static double sum_of(const double *e)
     return e[X] * e[X] + e[Y] * e[Y] + e[Z] * e[Z];
 }
 
-/* A sum that is subnormal, where there is a search: its root tells in the points, as no such r0 has an acceleration (8). */
+/* A subnormal sum, where there is a search. No r0 so small has an acceleration, so the call is refused, and a wrong root shows in the points alone. */
 static void see_sum(uint64_t sum)
 {
     int digits = 0;

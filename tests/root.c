@@ -20,6 +20,7 @@
 #define UNIT (UINT64_C(1) << 52)     /* of the exponent's field; the digits lie below it */
 #define INFINITE (2047 * UNIT)
 #define LENT UINT64_C(0x5EED5EED5EED5EED)     /* what a lent word holds before a call */
+#define LEAST 1000000     /* so many subnormals, and so many normal numbers, have to be asked for their root */
 
 static uint64_t asked, told, rooted, subnormal, negative;
 
@@ -121,7 +122,7 @@ static void zeros(void)
     tell("zeros");
 }
 
-/* Every one of up to 18 binary digits, and of each length beyond the least, the greatest and others. */
+/* Every one of up to 18 binary digits; of each greater length the least, the greatest and others. */
 static void subnormals(void)
 {
     uint64_t word, top;
@@ -132,10 +133,35 @@ static void subnormals(void)
     for (top = word; top < UNIT; top *= 2) {
         ask_both(top);
         ask_both(2 * top - 1);
-        for (i = 0; i < 23000; i++)
+        for (i = 0; i < 22000; i++)
             ask_both(top + any_below(top));
     }
-    tell("subnormals");
+    tell("subnormals of every length");
+}
+
+/* Up to nine binary digits, with as many zeros behind them as a subnormal has room for. */
+static void few_digits(void)
+{
+    uint64_t digits, word;
+
+    for (digits = 1; digits < 512; digits += 2)
+        for (word = digits; word < UNIT; word *= 2)
+            ask_both(word);
+    tell("subnormals of few digits");
+}
+
+/* a * a * 2^-1074 for an a of each length up to 26 binary digits, which has the root a * 2^-537, and the word before and after. */
+static void subnormal_squares(void)
+{
+    uint64_t top;
+    int i;
+
+    for (top = 1; top < UINT64_C(1) << 26; top *= 2)
+        for (i = 0; i < 1000; i++) {
+            double a = (double)(top + any_below(top));
+            ask_three(known(ldexp(a * a, -1074), ldexp(a, -537)));
+        }
+    tell("subnormal squares and neighbours");
 }
 
 /* The least, the greatest and others of each exponent field from 1 to 2046. */
@@ -272,6 +298,8 @@ int main(void)
     marked();
     zeros();
     subnormals();
+    few_digits();
+    subnormal_squares();
     normals();
     powers();
     squares();
@@ -282,5 +310,8 @@ int main(void)
     counts();
     printf(" none differs: %" PRIu64 " roots as the processor's, %" PRIu64 " of them of subnormals, %" PRIu64 " negatives refused\n",
            rooted, subnormal, negative);
-    return subnormal < 1000000 || rooted < 2 * subnormal;
+    if (subnormal >= LEAST && rooted - subnormal >= LEAST)
+        return EXIT_SUCCESS;
+    printf("root: too few were asked: %d subnormals and as many normal numbers are the least\n", LEAST);
+    return EXIT_FAILURE;
 }

@@ -1,4 +1,4 @@
--- The digits of a root, one a step: what is known once those of weight u and more are set, and that a step keeps it.
+-- The digits of a root, one a step: what is known once those of weight u and more are found, and that a step keeps it.
 use mathlib.Core.Path.{_≡_}
 use Prim.Native.Nat.{ℕ, zero, suc, _+_, _-_, _*_, _/_, _^_, _≤_, _<_}
 use native.Mathlib.Nat.{one-le-pow, lt-of-not-le}
@@ -17,7 +17,7 @@ pub record Prefix (m u left twice : ℕ) : Type 0 where
 pub small : {m u left twice : ℕ} → Prefix m u left twice → (twice + 2 * u ≤ 2 ^ 55) × (left < 2 ^ 57)
 small p = omega arith
 
--- A step sets the digit of weight d where what is left has room for it.
+-- A step sets the digit of weight d where enough is left for it.
 module _ {m u d left twice : ℕ} (e : u ≡ 2 * d) (p : Prefix m u left twice) where
   set-one : twice + d ≤ left → Prefix m d ((left - (twice + d)) * 2) (twice + d + d)
   set-one h =
@@ -56,7 +56,7 @@ module _ {m u d left twice : ℕ} (e : u ≡ 2 * d) (p : Prefix m u left twice) 
     | no h ↦ let h = lt-of-not-le h in rw (clear h .0, clear h .1) (set-none h)
   ]
 
--- The first digit that can be set, of weight 2 ^ 53, is set: m has room for it.
+-- The first digit that can be set, of weight 2 ^ 53, is set: m is large enough.
 pub first-set : (m : ℕ) → 2 ^ 52 ≤ m → m < 2 ^ 54 → Prefix m (2 ^ 53) ((m - 2 ^ 52) * 4) (2 ^ 52 * 4)
 first-set m l h = record { q = 2 ^ 53; double = omega arith; whole = omega arith; left-lt = omega arith; fits = omega arith }
 

@@ -29,7 +29,7 @@ unfolding rootWordOf
 largest = (refl, refl)
 
 -- Subnormals by their leading zeros: the second from zero, whose power is odd, so that its root has the digits of the root of 2; 2^-1048; the largest,
--- 2^-1022 less one digit; and 2^-1022, the first normal number.
+-- 2^-1022 less one digit. Beside them 2^-1022, the first normal number.
 second-from-zero : Gives 2 0 0x1e66_a09e_667f_3bcd
 unfolding rootWordOf
 second-from-zero = (refl, refl)

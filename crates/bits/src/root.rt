@@ -31,7 +31,7 @@ struct Known {
     twice: u64,
 }
 
-// A step: the digit of weight d is set where there is enough left, since to add d to q takes (2 q + d) * d.
+// A step: to add `digit`, a weight, to q takes (2 q + digit) * digit, which is `take` in the unit of `left`. Where so much is left, the digit is 1.
 fn next_digit(known: Known, digit: u64) -> Known
     requires { ⌜ (known .left < 2 ^ 63) × (known .twice + 2 * digit < 2 ^ 64) ⌝ }
     ensures set { λ r. ⌜ (known .twice + digit ≤ known .left → (r .left ≡ (known .left - (known .twice + digit)) * 2) × (r .twice ≡ known .twice + digit + digit)) ⌝ }
@@ -50,8 +50,8 @@ fn next_digit(known: Known, digit: u64) -> Known
     }
 }
 
-// The root of m * 2^54 rounded down, a binary digit a step. The first digit that can be set is that of weight 2^53, and m is large enough that it is, so the
-// steps begin behind it. For speed there are four a turn, those of weight 8 * `digit` to `digit`.
+// The root of m * 2^54 rounded down, a binary digit a step. The first digit that can be 1 is that of weight 2^53, and since 2^52 <= m it is: it is known without
+// a step. 53 steps find those after it, one and then 13 turns of four, for speed, of weights 8 * `digit` to `digit`.
 fn root_digits(m: u64) -> u64
     requires { ⌜ (2 ^ 52 ≤ m) × (m < 2 ^ 54) ⌝ }
     ensures { λ q. ⌜ (q * q ≤ m * 2 ^ 54) × (m * 2 ^ 54 < (q + 1) * (q + 1)) ⌝ }
@@ -72,7 +72,8 @@ fn root_digits(m: u64) -> u64
     known.twice / 2
 }
 
-// A subnormal's digits moved up by their leading zeros, all but the 11 above 53 digits, and the power of two that makes up for it.
+// A subnormal's digits moved up by their leading zeros, all but the 11 above 53 digits, so that the root's first digit has the same weight for every number;
+// and the power of two that makes up for it: together they are digits * 2^52.
 fn normalised(digits: u64) -> Scaled
     requires { ⌜ (0 < digits) × (digits < 2 ^ 52) ⌝ }
     ensures { λ r. ⌜ (r .«digits» * 2 ^ r .power ≡ digits * 2 ^ 52) × (2 ^ 52 ≤ r .«digits») × (r .«digits» < 2 ^ 53) × (r .power ≤ 52) ⌝ }
@@ -85,7 +86,7 @@ fn normalised(digits: u64) -> Scaled
 }
 
 // The word of the root of a double that is m * 2^e, counted in units of 2^-1126. The 54 digits of the root of m, or of 2 m where e is odd, are halved
-// and rounded up where the last is 1; a carry goes on into the exponent field by itself.
+// and rounded up where the last is 1; the first of the 53 that are left counts as 1 in the exponent field.
 fn packed_root(m: u64, e: u64) -> u64
     requires { ⌜ (2 ^ 52 ≤ m) × (m < 2 ^ 53) × (e ≤ 2097) ⌝ }
     ensures { λ r. ⌜ ((b : ℕ) → units b * 2 ^ 52 ≡ m * 2 ^ e → NearestRoot b r) ⌝ }
