@@ -38,7 +38,7 @@ static const char *const columns[] = {
 };
 
 #define SETS ((COUNT(columns) - 1) / CALLS)
-#define NORMAL_SETS 7     /* from here on, and subnormal ones from 1 on, squares and others by turns */
+#define NORMAL_SETS 7     /* by classes are subnormals from set 1 on and normals from here on, squares and others by turns */
 
 static uint64_t sets[SETS][WORDS];
 

@@ -43,7 +43,7 @@ static double sum_of(const double *e)
     return e[X] * e[X] + e[Y] * e[Y] + e[Z] * e[Z];
 }
 
-/* A subnormal sum, where there is a search. No r0 so small has an acceleration, so the call is refused, and a wrong root shows in the points alone. */
+/* A subnormal sum, where there is a search. No r0 so small has an acceleration, so the call is refused: a wrong root shows in the points, or in the refusal. */
 static void see_sum(uint64_t sum)
 {
     int digits = 0;

@@ -18,14 +18,14 @@ pub small : {m u left twice : ℕ} → Prefix m u left twice → (twice + 2 * u 
 small p = omega arith
 
 -- A step sets the digit of weight d where enough is left for it.
-module _ {m u d left twice : ℕ} (e : u ≡ 2 * d) (p : Prefix m u left twice) where
+module _ {m d left twice : ℕ} (p : Prefix m (2 * d) left twice) where
   set-one : twice + d ≤ left → Prefix m d ((left - (twice + d)) * 2) (twice + d + d)
   set-one h =
-      let l : left ≡ left - (twice + d) + (2 * p .q + d) = omega arith in
+      let e : left ≡ left - (twice + d) + (2 * p .q + d) = omega arith in
       record {
         q = p .q + d;
         double = omega arith;
-        whole = from (p .q) (left - (twice + d)) (rw (l, e) at (p .whole));
+        whole = from (p .q) (left - (twice + d)) (rw e at (p .whole));
         left-lt = omega arith;
         fits = omega arith;
       }
@@ -38,23 +38,22 @@ module _ {m u d left twice : ℕ} (e : u ≡ 2 * d) (p : Prefix m u left twice) 
       record {
         q = p .q;
         double = p .double;
-        whole = from (rw e at (p .whole));
+        whole = omega arith;
         left-lt = omega arith;
         fits = omega arith;
       }
-    where
-      from : left * (2 * d) + 2 * (p .q * p .q) ≡ 2 * (m * 2 ^ 54) → left * 2 * d + 2 * (p .q * p .q) ≡ 2 * (m * 2 ^ 54)
-      from w = omega arith
 
-  -- By what `next_digit` ensures of what it answers.
-  pub step : {left' twice' : ℕ}
-      → (twice + d ≤ left → (left' ≡ (left - (twice + d)) * 2) × (twice' ≡ twice + d + d))
-      → (left < twice + d → (left' ≡ left * 2) × (twice' ≡ twice))
-      → Prefix m d left' twice'
-  step set clear = elim (decLe (twice + d) left) [
-    | yes h ↦ rw (set h .0, set h .1) (set-one h)
-    | no h ↦ let h = lt-of-not-le h in rw (clear h .0, clear h .1) (set-none h)
-  ]
+-- By what `next_digit` ensures of what it answers.
+pub step : {m u d left twice left' twice' : ℕ} → u ≡ 2 * d → Prefix m u left twice
+    → (twice + d ≤ left → (left' ≡ (left - (twice + d)) * 2) × (twice' ≡ twice + d + d))
+    → (left < twice + d → (left' ≡ left * 2) × (twice' ≡ twice))
+    → Prefix m d left' twice'
+step {d = d} {left = left} {twice = twice} e p set clear =
+    let p = rw e at p in
+    elim (decLe (twice + d) left) [
+      | yes h ↦ rw (set h .0, set h .1) (set-one p h)
+      | no h ↦ let h = lt-of-not-le h in rw (clear h .0, clear h .1) (set-none p h)
+    ]
 
 -- The first digit that can be set, of weight 2 ^ 53, is set: m is large enough.
 pub first-set : (m : ℕ) → 2 ^ 52 ≤ m → m < 2 ^ 54 → Prefix m (2 ^ 53) ((m - 2 ^ 52) * 4) (2 ^ 52 * 4)
