@@ -1,8 +1,9 @@
--- Document 01's marked cases, P1 to P12 and P10's whole result file: what each asks, what it must give, and one statement, computed from the definitions.
+-- Document 01's marked cases, P1 to P12 and P10's whole result file, and one of T-04: what each asks, what it must give, and one statement, computed from the
+-- definitions.
 use mathlib.Core.Path.{_≡_, refl}
 use mathlib.Core.List.{List, [], _∷_, map}
 use Prim.Native.Nat.{ℕ}
-use lib.Ieee.{binary64, add, sub, mul, div, neg, lt, eq, ne, ofBits, toBits}
+use lib.Ieee.{binary64, add, sub, mul, div, neg, lt, eq, ne, ofInt, ofBits, toBits}
 use Rattle.bits.specs.Words.{minusZero, wordsOf}
 use Rattle.bits.specs.Runs.{firstOf, has}
 use Rattle.bits.specs.Root.{rootRefusalOf, rootWordOf, rootOf}
@@ -12,10 +13,12 @@ use Rattle.search_points.specs.Residual.{timeErrorOf, radiusOf}
 use Rattle.search_points.specs.Trial.{anomalyAt, sortOf, evaluatedAt, trialAt}
 use Rattle.search_rule.specs.Rule.{onward, outward, halving, round, inward, history, counted}
 use Rattle.search.specs.Search.{searchChoosing}
+use Rattle.states_revolutions.specs.Floor.{floorOf}
+use Rattle.states_revolutions.specs.Revolutions.{revolutionOf, isClosed, isUsable, courseOf, asItIs, withoutTurns, withoutRevolutions, intervalOf}
 use Rattle.states_arcs.specs.Results.{factorsOf, endStateOf, arcOf, accelerationOf, resultsOf, figuresOf, endedOf}
 use Rattle.states_start.specs.Given.{readOf}
 use Rattle.states_start.specs.Initial.{dot, begunOf, firstStepOf}
-use Rattle.states.specs.Call.{refused, answered, reachedFound, reachedFromBy, reachedOrbitBy, reachedWordsBy, endedAnswer, propagateBy, propagateOf, answerWords}
+use Rattle.states.specs.Call.{refused, answered, reachedFound, reachedOverBy, reachedFromBy, reachedOrbitBy, reachedWordsBy, endedAnswer, propagateBy, propagateOf, answerWords}
 use Rattle.files_words.specs.Bytes.{asBytes}
 use Rattle.files_reader.specs.Reader.{readingOf}
 use Rattle.files_results.specs.Requests.{requestWords}
@@ -68,6 +71,14 @@ abbrev staysWith : (points psi : ℕ) → List ℕ
 staysWith points psi =
     0 ∷ points ∷ one ∷ 0 ∷ 0 ∷ 0 ∷ 0 ∷ 0 ∷ minusZero ∷ minusZero ∷ minusZero ∷ minusZero ∷ minusZero ∷ minusZero ∷ psi ∷ []
 
+-- T-04: a circle, "μ = 1, position (1,0,0), velocity (0,1,0)", whose period is 2·π as a double. After three of them, forward or back, it is where it began, "ψ is +0 with
+-- no points", and the figures can be worked out by hand.
+abbrev around : (tau : ℕ) → List ℕ
+around tau = one ∷ one ∷ 0 ∷ 0 ∷ 0 ∷ one ∷ 0 ∷ tau ∷ []
+
+abbrev comesRound : List ℕ
+comesRound = 0 ∷ 0 ∷ one ∷ 0 ∷ 0 ∷ 0 ∷ one ∷ 0 ∷ minusOne ∷ minusZero ∷ minusZero ∷ minusOne ∷ minusZero ∷ minusZero ∷ 0 ∷ []
+
 -- ---- The table.
 abbrev pub table : List Case
 table =
@@ -89,6 +100,9 @@ table =
     ∷ record { asked = call (at-one 0 minusOne); must = staysWith 21 minusOne }
     -- "P12 position (1,0,0), velocity (0,2^500,0), μ = 0, τ = 2^40: 6 with 1 point."
     ∷ record { asked = call (at-one 0x5f30000000000000 0x4270000000000000); must = refusedWith 6 1 }
+    -- T-04: three times the period, which is 401921FB54442D18 hex, and minus that.
+    ∷ record { asked = call (around 0x4032d97c7f3321d2); must = comesRound }
+    ∷ record { asked = call (around 0xc032d97c7f3321d2); must = comesRound }
     -- "P10 as one request writes, whole: 1, 1, 0, 21, the word of 1.0 .., 0, 0, 0, 0, 0, then three times 8000000000000000 hex (minus zero)."
     ∷ record {
       asked = file (1 ∷ 1 ∷ 0 ∷ 1 ∷ 0 ∷ 0 ∷ one ∷ 0 ∷ 0 ∷ 0 ∷ 0 ∷ 0 ∷ 1 ∷ 0 ∷ one ∷ []);
@@ -100,5 +114,5 @@ table =
 
 -- Each case of the table gives what it must.
 pub marked : map (λ (c : Case). given (c .asked)) table ≡ map (λ (c : Case). c .must) table
-unfolding resultFile readingOf rowsOf rowOf requestWords propagateBy answerWords reachedWordsBy reachedOrbitBy reachedFromBy reachedFound endedAnswer answered refused readOf begunOf dot firstStepOf endedOf figuresOf resultsOf accelerationOf arcOf endStateOf factorsOf has firstOf searchChoosing history inward round halving outward onward counted trialAt evaluatedAt sortOf anomalyAt timeErrorOf radiusOf coefficientsOf sumsOf quotientsOf doublings atReduced c4Of c5Of nested reducedFrom beyondOne rootOf rootWordOf asBytes add sub mul div neg lt eq ne ofBits toBits
+unfolding resultFile readingOf rowsOf rowOf requestWords propagateBy answerWords reachedWordsBy reachedOrbitBy reachedFromBy reachedOverBy reachedFound intervalOf withoutRevolutions withoutTurns asItIs floorOf courseOf isClosed isUsable revolutionOf ofInt endedAnswer answered refused readOf begunOf dot firstStepOf endedOf figuresOf resultsOf accelerationOf arcOf endStateOf factorsOf has firstOf searchChoosing history inward round halving outward onward counted trialAt evaluatedAt sortOf anomalyAt timeErrorOf radiusOf coefficientsOf sumsOf quotientsOf doublings atReduced c4Of c5Of nested reducedFrom beyondOne rootOf rootWordOf asBytes add sub mul div neg lt eq ne ofBits toBits
 marked = refl

@@ -27,12 +27,23 @@ use Rattle.states_partials.specs.Entries.{entriesOf}
 use Rattle.states_arcs.proofs.EndLaws.{seven-or-eight}
 use Rattle.states_partials.proofs.EntryLaws.{zero-or-eight}
 use Rattle.states_partials.specs.Partials.{partialsRefusal, lentAfter}
-use Rattle.states_start.specs.Initial.{firstStepOf}
+use Rattle.search_points.specs.declared.figures.Initial.{Initial}
+use Rattle.states_revolutions.specs.Revolutions.{intervalOf}
+use Rattle.states_revolutions.proofs.RevolutionLaws.{nothing-off}
+use Rattle.states_revolutions.specs.declared.figures.WholeInterval.{WholeInterval}
+use Rattle.states_revolutions.specs.declared.figures.Interval.{Interval}
+use Rattle.states_revolutions.specs.declared.figures.Off.the-variants as off
+use Rattle.states_start.specs.Given.{readOf}
+use Rattle.states_start.specs.Initial.{begunOf, firstStepOf}
+use Rattle.states_start.specs.declared.figures.Orbit.{Orbit}
+use Rattle.states_start.specs.declared.figures.Read.{Read}
+use Rattle.states_start.specs.declared.figures.Read.the-variants as read
+use Rattle.states_start.specs.declared.figures.Begun.the-variants as begun
 use Rattle.states_start.specs.declared.figures.Begun.{Begun}
 use Rattle.states_start.specs.declared.figures.Start.{Start}
-use Rattle.states.specs.Call.{noResults, refused, answered, reachedFound, reachedFromBy, reachedBegunBy, reachedOrbitBy, reachedReadBy, reachedWordsBy, endedAnswer, answerFrom, propagateBy}
+use Rattle.states.specs.Call.{Parting, wholly, noResults, refused, answered, reachedFound, reachedOverBy, reachedFromBy, reachedBegunBy, reachedOrbitBy, reachedReadBy, reachedWordsBy, endedAnswer, answerFrom, propagateBy}
 use Rattle.states.specs.WithPartials.{withPartials, endedWith, lentEnded, partialsFrom, lentFrom, partialsBy, lentBy}
-use Rattle.states.specs.CallPromise.{ZerosOrAnswer, UnchangedOrAnswer, Searches, Reports, FindsAnomaly, CountsPoints}
+use Rattle.states.specs.CallPromise.{ZerosOrAnswer, UnchangedOrAnswer, Searches, intervalIn, searchedIn, Reports, FindsAnomaly, CountsPoints, NothingSearched, NoneComesOff, Else01Stands}
 use Rattle.states.specs.declared.figures.Reached.{Reached}
 use Rattle.states.specs.declared.figures.Reached.the-variants as reached
 use Rattle.states.specs.declared.figures.Answer.{Answer}
@@ -60,7 +71,7 @@ by-clean (reached.Refused k n) = refused-clean k n
 
 pub zeros-or-answer : ZerosOrAnswer
 unfolding propagateBy
-zeros-or-answer pr words = by-clean (reachedWordsBy pr words)
+zeros-or-answer pt pr words = by-clean (reachedWordsBy pt pr words)
 
 -- With the lent run beside it.
 abbrev Kept : Answer → (run after : List ℕ) → Type 0
@@ -90,22 +101,24 @@ length-kept false x run = by-kept x run
 
 pub unchanged-or-answer : UnchangedOrAnswer
 unfolding partialsBy lentBy
-unchanged-or-answer pr words run = length-kept (not (eqb (length run) 36)) (reachedWordsBy pr words) run
+unchanged-or-answer pt pr words run = length-kept (not (eqb (length run) 36)) (reachedWordsBy pt pr words) run
 
 -- ---- Demand 3
 
+-- What the search of an interval ends with.
+abbrev foundBy : Proposing → Initial → Seconds → Finding
+foundBy pr i tau = searchBy (pr i tau) i tau (firstStepOf i tau)
+
 -- Where the search found ψ, the call goes on from its arc.
-reaches : (pr : Proposing) (words : List ℕ) (s : Searches words) {x : Finding} →
-    searchBy (pr (s .start .initial) (s .tau)) (s .start .initial) (s .tau) (firstStepOf (s .start .initial) (s .tau)) ≡ x →
-    reachedWordsBy pr words ≡ reachedFound (s .start) (s .tau) x
-unfolding reachedWordsBy reachedOrbitBy reachedFromBy
-reaches pr words s e =
+reaches : (pt : Parting) (pr : Proposing) (words : List ℕ) (s : Searches pt words) {x : Finding} →
+    foundBy pr (s .start .initial) (searchedIn s) ≡ x → reachedWordsBy pt pr words ≡ reachedFound (s .start) (intervalIn s) x
+unfolding reachedWordsBy reachedOrbitBy reachedFromBy reachedOverBy
+reaches pt pr words s e =
     let start = s .start in
-    let tau = s .tau in
-    let found = searchBy (pr (start .initial) tau) (start .initial) tau (firstStepOf (start .initial) tau) in
-    ap (reachedReadBy pr) (s .reads) ∙ ap (λ (b : Begun). reachedBegunBy pr b tau) (s .begins)
-    ∙ ap (λ (t : Bool). pick (not t) (reached.Refused 4 0) (reachedFound start tau found)) (s .steps)
-    ∙ ap (reachedFound start tau) e
+    let d = intervalIn s in
+    ap (reachedReadBy pt pr) (s .reads) ∙ ap (λ (b : Begun). reachedBegunBy pt pr b (s .whole)) (s .begins)
+    ∙ ap (λ (t : Bool). pick (not t) (reached.Refused 4 0) (reachedFound start d (foundBy pr (start .initial) (d .searched)))) (s .steps)
+    ∙ ap (reachedFound start d) e
 
 -- The results of an arc, or 7 or 8.
 abbrev SevenOrEight : Ended → Results → Type 0
@@ -131,9 +144,9 @@ settled-with arc n e r run h (inl p) =
 settled-with arc n e r run h (inr (inl p)) = inr (inl (ap (λ (x : Ended). endedWith arc n x run) p))
 settled-with arc n e r run h (inr (inr p)) = inr (inr (ap (λ (x : Ended). endedWith arc n x run) p))
 
-psi-of : (s : Start) (tau : Seconds) (psi : Anomaly) → resultsOf (arcOf s tau psi) .psi ≡ psi
+psi-of : (s : Start) (d : Interval) (psi : Anomaly) → resultsOf (arcOf s d psi) .psi ≡ psi
 unfolding resultsOf arcOf
-psi-of s tau psi = refl
+psi-of s d psi = refl
 
 -- A settled answer reports the points, and its ψ is that of the results.
 settled-points : (a : Answer) (n : ℕ) (r : Results) → Settled a n r → a .points ≡ n
@@ -148,26 +161,28 @@ settled-psi a n r (inl e) z = ap (λ (x : Answer). x .results .psi) e
 settled-psi a n r (inr (inl e)) z = absurd (omega (arith, ap (λ (x : Answer). x .refusal) e))
 settled-psi a n r (inr (inr e)) z = absurd (omega (arith, ap (λ (x : Answer). x .refusal) e))
 
-reports : {pr : Proposing} {s : Start} {tau : Seconds} {f : Finding} {a : Answer} (d : Demand3 (pr (s .initial) tau) (s .initial) tau (firstStepOf (s .initial) tau) f) →
-    Settled a (d .points) (resultsOf (arcOf s tau (anomalyAt tau (d .place)))) → Reports pr s tau a
-reports {s = s} {tau = tau} {a = a} d settled =
-    let r = resultsOf (arcOf s tau (anomalyAt tau (d .place))) in
-    record {
-      at = record { place = d .place; points = d .points; anomaly = d .anomaly; used = d .used; at-most = d .at-most; answer = settled };
-      reported = settled-points a (d .points) r settled;
-      psi = λ z. settled-psi a (d .points) r settled z ∙ psi-of s tau (anomalyAt tau (d .place));
-    }
+module _ (pr : Proposing) (s : Start) (d : Interval) where
+  reports : {f : Finding} {a : Answer} (g : Demand3 (pr (s .initial) (d .searched)) (s .initial) (d .searched) (firstStepOf (s .initial) (d .searched)) f) →
+      Settled a (g .points) (resultsOf (arcOf s d (anomalyAt (d .searched) (g .place)))) → Reports pr s d a
+  reports {a = a} g so =
+      let psi = anomalyAt (d .searched) (g .place) in
+      let r = resultsOf (arcOf s d psi) in
+      record {
+        at = record { place = g .place; points = g .points; anomaly = g .anomaly; used = g .used; at-most = g .at-most; answer = so };
+        reported = settled-points a (g .points) r so;
+        psi = λ z. settled-psi a (g .points) r so z ∙ psi-of s d psi;
+      }
 
 pub finds-anomaly : FindsAnomaly
 unfolding reachedFound propagateBy partialsBy
-finds-anomaly pr words s nonzero findable =
-    let tau = s .tau in
+finds-anomaly pt pr words s nonzero findable =
+    let tau = searchedIn s in
     let i = s .start .initial in
-    let d = demand3-by (pr i tau) i tau (firstStepOf i tau) nonzero findable in
-    let arc = arcOf (s .start) tau (anomalyAt tau (d .place)) in
-    let x : reachedWordsBy pr words ≡ reached.End arc (d .points) = reaches pr words s (d .found) in (
-      reports d (rw x (settled (d .points) (endedOf arc) (resultsOf arc) (seven-or-eight arc))),
-      λ run h. reports d (rw (eq-eqb (length run) 36 h, x) (settled-with arc (d .points) (endedOf arc) (resultsOf arc) run h (seven-or-eight arc))),
+    let g = demand3-by (pr i tau) i tau (firstStepOf i tau) nonzero findable in
+    let arc = arcOf (s .start) (intervalIn s) (anomalyAt tau (g .place)) in
+    let x : reachedWordsBy pt pr words ≡ reached.End arc (g .points) = reaches pt pr words s (g .found) in (
+      reports pr (s .start) (intervalIn s) g (rw x (settled (g .points) (endedOf arc) (resultsOf arc) (seven-or-eight arc))),
+      λ run h. reports pr (s .start) (intervalIn s) g (rw (eq-eqb (length run) 36 h, x) (settled-with arc (g .points) (endedOf arc) (resultsOf arc) run h (seven-or-eight arc))),
     )
 
 -- ---- The points of both calls are those of the search, however they end.
@@ -175,31 +190,68 @@ refused-points : (k n : ℕ) → refused k n .points ≡ n
 unfolding refused
 refused-points k n = refl
 
-module _ (s : Start) (tau : Seconds) where
-  found-points : (x : Finding) → answerFrom (reachedFound s tau x) .points ≡ usedIn x
+module _ (s : Start) (d : Interval) where
+  found-points : (x : Finding) → answerFrom (reachedFound s d x) .points ≡ usedIn x
   unfolding reachedFound
   found-points (finding.Found psi n) =
-      let arc = arcOf s tau psi in
+      let arc = arcOf s d psi in
       settled-points (endedAnswer n (endedOf arc)) n (resultsOf arc) (settled n (endedOf arc) (resultsOf arc) (seven-or-eight arc))
   found-points (finding.AllShort n) = refused-points 5 n
   found-points (finding.Unreadable n) = refused-points 6 n
 
-  found-with-points : (x : Finding) (run : List ℕ) → length run ≡ 36 → partialsFrom (reachedFound s tau x) run .points ≡ usedIn x
+  found-with-points : (x : Finding) (run : List ℕ) → length run ≡ 36 → partialsFrom (reachedFound s d x) run .points ≡ usedIn x
   unfolding reachedFound
   found-with-points (finding.Found psi n) run h =
-      let arc = arcOf s tau psi in
+      let arc = arcOf s d psi in
       settled-points (endedWith arc n (endedOf arc) run) n (resultsOf arc) (settled-with arc n (endedOf arc) (resultsOf arc) run h (seven-or-eight arc))
   found-with-points (finding.AllShort n) run h = refused-points 5 n
   found-with-points (finding.Unreadable n) run h = refused-points 6 n
 
 pub counts-points : CountsPoints
 unfolding propagateBy partialsBy
-counts-points pr words s nonzero =
-    let tau = s .tau in
+counts-points pt pr words s nonzero =
+    let tau = searchedIn s in
     let i = s .start .initial in
-    let x = searchBy (pr i tau) i tau (firstStepOf i tau) in
-    let e : reachedWordsBy pr words ≡ reachedFound (s .start) tau x = reaches pr words s refl in
+    let d = intervalIn s in
+    let x = foundBy pr i tau in
+    let e : reachedWordsBy pt pr words ≡ reachedFound (s .start) d x = reaches pt pr words s refl in
     let counted = promise-by (pr i tau) i tau (firstStepOf i tau) .interval nonzero .counts in (
-      ap (λ (r : Reached). answerFrom r .points) e ∙ found-points (s .start) tau x ∙ counted,
-      λ run h. rw (eq-eqb (length run) 36 h) (ap (λ (r : Reached). partialsFrom r run .points) e ∙ found-with-points (s .start) tau x run h ∙ counted),
+      ap (λ (r : Reached). answerFrom r .points) e ∙ found-points (s .start) d x ∙ counted,
+      λ run h. rw (eq-eqb (length run) 36 h) (ap (λ (r : Reached). partialsFrom r run .points) e ∙ found-with-points (s .start) d x run h ∙ counted),
+    )
+
+-- ---- T-04
+
+-- An interval that is zero once its revolutions are off is not searched.
+pub nothing-searched : NothingSearched
+unfolding reachedFound
+nothing-searched pt pr words s zero =
+    let tau = searchedIn s in
+    let i = s .start .initial in
+    reaches pt pr words s (promise-by (pr i tau) i tau (firstStepOf i tau) .no-interval zero)
+
+-- Where nothing comes off, to take revolutions off is to take nothing off.
+module _ (pr : Proposing) where
+  from-begun : (b : Begun) (whole : WholeInterval) → ((s : Start) → b ≡ begun.Start s → intervalOf (s .course) whole .off ≡ off.Nothing)
+      → reachedBegunBy intervalOf pr b whole ≡ reachedBegunBy wholly pr b whole
+  unfolding reachedFromBy
+  from-begun (begun.Refused n) whole none = refl
+  from-begun (begun.Start s) whole none = ap (reachedOverBy pr s) (nothing-off (s .course) whole (none s refl))
+
+  from-read : (r : Read)
+      → ((o : Orbit) (whole : WholeInterval) (s : Start) → r ≡ read.Orbit o whole → begunOf o ≡ begun.Start s → intervalOf (s .course) whole .off ≡ off.Nothing)
+      → reachedReadBy intervalOf pr r ≡ reachedReadBy wholly pr r
+  unfolding reachedOrbitBy
+  from-read (read.NotFinite k) none = refl
+  from-read (read.Orbit o whole) none = from-begun (begunOf o) whole (λ s e. none o whole s refl e)
+
+pub else-01-stands : Else01Stands
+unfolding reachedWordsBy propagateBy partialsBy lentBy
+else-01-stands pr words none =
+    let e = from-read pr (readOf words) none in (
+      ap answerFrom e,
+      λ run. (
+        ap (λ (x : Reached). pick (not (eqb (length run) 36)) (refused 1 0) (partialsFrom x run)) e,
+        ap (λ (x : Reached). pick (not (eqb (length run) 36)) run (lentFrom x run)) e,
+      ),
     )

@@ -1,9 +1,9 @@
 -- The premises of demand 3 can be met: P10 of document 01 passes refusals 1 to 4, its time isn't zero, and an anomaly can be found. So one is, whatever proposes.
 use Prim.Native.Nat.{ℕ}
-use mathlib.Core.Path.{_≡_, refl, sym, subst}
+use mathlib.Core.Path.{_≡_, refl, sym, _∙_, ap, subst}
 use mathlib.Core.Bool.{true, false}
 use mathlib.Core.List.{List, [], _∷_}
-use lib.Ieee.{binary64, add, sub, mul, div, eq, ofBits, toBits}
+use lib.Ieee.{binary64, add, sub, mul, div, lt, eq, ofBits, toBits}
 use Rattle.bits.specs.Arithmetic.{n0, n1}
 use Rattle.bits.specs.Runs.{firstOf, has}
 use Rattle.bits.specs.Root.{rootWordOf, rootOf}
@@ -12,13 +12,22 @@ use Rattle.search.proofs.Witness.{placeOfH, findable}
 use Rattle.search_points.proofs.AtRest.{atRest, oneSecond}
 use Rattle.search_points.specs.Trial.{trialAt}
 use Rattle.search_rule.specs.RulePromise.{Findable}
+use Rattle.states_revolutions.specs.Revolutions.{isClosed, courseOf, asItIs, intervalOf}
+use Rattle.states_revolutions.specs.declared.figures.WholeInterval.{WholeInterval}
+use Rattle.states_revolutions.specs.declared.figures.Course.{Course}
+use Rattle.states_revolutions.specs.declared.figures.Course.the-variants.{Open}
+use Rattle.states_revolutions.specs.declared.figures.Off.the-variants.{Nothing}
 use Rattle.states_start.specs.Given.{readOf}
 use Rattle.states_start.specs.Initial.{dot, begunOf, firstStepOf}
 use Rattle.states_start.specs.declared.figures.Vector.{Vector}
 use Rattle.states_start.specs.declared.figures.Orbit.{Orbit}
 use Rattle.states_start.specs.declared.figures.Start.{Start}
+use Rattle.states_start.specs.declared.figures.Read.{Read}
+use Rattle.states_start.specs.declared.figures.Read.the-variants as read
+use Rattle.states_start.specs.declared.figures.Begun.{Begun}
+use Rattle.states_start.specs.declared.figures.Begun.the-variants as begun
 use Rattle.states.specs.Call.{propagateBy}
-use Rattle.states.specs.CallPromise.{Searches, Reports, firstPlace}
+use Rattle.states.specs.CallPromise.{Searches, Reports, NoneComesOff, firstPlace}
 use Rattle.states.proofs.CallPromise.{finds-anomaly}
 
 -- "μ = 0, position (1,0,0), at rest, τ = 1"
@@ -32,11 +41,14 @@ abbrev orbit : Orbit
 orbit = record { mu = n0; state = record { position = vector 0x3ff0000000000000; velocity = vector 0 } }
 
 abbrev start : Start
-start = record { state = orbit .state; initial = atRest }
+start = record { state = orbit .state; initial = atRest; course = Open }
 
-pub p10-searches : Searches p10
-unfolding readOf firstOf has dot begunOf firstStepOf rootWordOf rootOf add sub mul div eq ofBits toBits
-p10-searches = record { orbit = orbit; tau = oneSecond; start = start; reads = refl; begins = refl; steps = refl }
+abbrev whole : WholeInterval
+whole = record { 0 = oneSecond .0 }
+
+pub p10-searches : Searches intervalOf p10
+unfolding intervalOf asItIs isClosed courseOf lt readOf firstOf has dot begunOf firstStepOf rootWordOf rootOf add sub mul div eq ofBits toBits
+p10-searches = record { orbit = orbit; whole = whole; start = start; reads = refl; begins = refl; steps = refl }
 
 first-place : firstPlace start oneSecond ≡ placeOfH
 unfolding firstStepOf mul div ofBits toBits
@@ -46,6 +58,29 @@ nonzero : eq (oneSecond .0) n0 ≡ false
 unfolding eq ofBits
 nonzero = refl
 
-pub p10-found : (pr : Proposing) → Reports pr start oneSecond (propagateBy pr p10)
-unfolding p10-searches
-p10-found pr = finds-anomaly pr p10 p10-searches nonzero (subst (Findable (trialAt atRest oneSecond)) (sym first-place) findable) .0
+pub p10-found : (pr : Proposing) → Reports pr start (asItIs whole) (propagateBy intervalOf pr p10)
+unfolding p10-searches intervalOf asItIs
+p10-found pr = finds-anomaly intervalOf pr p10 p10-searches nonzero (subst (Findable (trialAt atRest oneSecond)) (sym first-place) findable) .0
+
+-- No revolution comes off P10: its orbit does not close.
+orbitIn : Read → Orbit
+orbitIn (read.Orbit o d) = o
+orbitIn (read.NotFinite k) = orbit
+
+courseIn : Begun → Course
+courseIn (begun.Start s) = s .course
+courseIn (begun.Refused n) = Open
+
+p10-open : courseIn (begunOf (orbitIn (readOf p10))) ≡ Open
+unfolding orbitIn courseIn isClosed courseOf lt readOf firstOf has dot begunOf rootWordOf rootOf add sub mul div eq ofBits toBits
+p10-open = refl
+
+nothing-of-open : (d : WholeInterval) → intervalOf Open d .off ≡ Nothing
+unfolding intervalOf asItIs
+nothing-of-open d = refl
+
+pub p10-as-before : NoneComesOff p10
+unfolding orbitIn courseIn
+p10-as-before o d s reads begins =
+    let course : s .course ≡ Open = ap courseIn (sym begins) ∙ ap (λ (x : Orbit). courseIn (begunOf x)) (ap orbitIn (sym reads)) ∙ p10-open in
+    ap (λ (x : Course). intervalOf x d .off) course ∙ nothing-of-open d

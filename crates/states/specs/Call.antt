@@ -6,11 +6,14 @@ use Prim.Native.Nat.{ℕ}
 use Rattle.bits.specs.Choice.{pick}
 use Rattle.bits.specs.Arithmetic.{n0, isFinite}
 use Rattle.bits.specs.Words.{wordsOf}
-use Rattle.series.specs.declared.figures.Seconds.{Seconds}
 use Rattle.search_proposals.specs.Proposals.{threeProposals}
 use Rattle.search.specs.Search.{Proposing, searchBy}
 use Rattle.search.specs.declared.figures.Finding.{Finding}
 use Rattle.search.specs.declared.figures.Finding.the-variants as finding
+use Rattle.states_revolutions.specs.Revolutions.{asItIs, intervalOf}
+use Rattle.states_revolutions.specs.declared.figures.WholeInterval.{WholeInterval}
+use Rattle.states_revolutions.specs.declared.figures.Interval.{Interval}
+use Rattle.states_revolutions.specs.declared.figures.Course.{Course}
 use Rattle.states_arcs.specs.Results.{arcOf, figuresOf, endedOf}
 use Rattle.states_arcs.specs.declared.figures.Results.{Results}
 use Rattle.states_arcs.specs.declared.figures.Ended.{Ended}
@@ -48,33 +51,45 @@ unfoldable pub answered : (points : ℕ) → Results → Answer
 answered points results = record { refusal = 0; points = points; results = results }
 
 -- Refusal 5: "all 41 outward points are short"; 6: "a point that the search tries is unreadable"; both with the points used so far. Else the arc of the found ψ.
-unfoldable pub reachedFound : Start → Seconds → Finding → Reached
-reachedFound s tau (finding.AllShort n) = reached.Refused 5 n
-reachedFound s tau (finding.Unreadable n) = reached.Refused 6 n
-reachedFound s tau (finding.Found psi n) = reached.End (arcOf s tau psi) n
+unfoldable pub reachedFound : Start → Interval → Finding → Reached
+reachedFound s d (finding.AllShort n) = reached.Refused 5 n
+reachedFound s d (finding.Unreadable n) = reached.Refused 6 n
+reachedFound s d (finding.Found psi n) = reached.End (arcOf s d psi) n
 
--- Refusal 4 by H; then the search, by any formula that proposes its inner points. Document 01's three are one, and the contracts speak of that.
-unfoldable pub reachedFromBy : Proposing → Start → Seconds → Reached
-reachedFromBy pr s tau =
+-- Refusal 4 by H of what is searched; then the search, by any formula that proposes its inner points. Document 01's three are one, and the contracts speak of that.
+unfoldable pub reachedOverBy : Proposing → Start → Interval → Reached
+reachedOverBy pr s d =
     let i = s .initial in
+    let tau = d .searched in
     let h = firstStepOf i tau in
-    pick (not (isFinite (h .0))) (reached.Refused 4 0) (reachedFound s tau (searchBy (pr i tau) i tau h))
+    pick (not (isFinite (h .0))) (reached.Refused 4 0) (reachedFound s d (searchBy (pr i tau) i tau h))
+
+-- What comes off an interval before it is searched. T-04's rule is `intervalOf`, and the contracts speak of that; where nothing comes off (`wholly`), it is the call that
+-- document 01 alone describes.
+abbrev pub Parting : Type 0
+Parting = Course → WholeInterval → Interval
+
+abbrev pub wholly : Parting
+wholly course whole = asItIs whole
+
+unfoldable pub reachedFromBy : Parting → Proposing → Start → WholeInterval → Reached
+reachedFromBy pt pr s whole = reachedOverBy pr s (pt (s .course) whole)
 
 -- Refusals 3 and 4 by the orbit.
-abbrev pub reachedBegunBy : Proposing → Begun → Seconds → Reached
-reachedBegunBy pr (begun.Refused n) tau = reached.Refused n 0
-reachedBegunBy pr (begun.Start s) tau = reachedFromBy pr s tau
+abbrev pub reachedBegunBy : Parting → Proposing → Begun → WholeInterval → Reached
+reachedBegunBy pt pr (begun.Refused n) whole = reached.Refused n 0
+reachedBegunBy pt pr (begun.Start s) whole = reachedFromBy pt pr s whole
 
-unfoldable pub reachedOrbitBy : Proposing → Orbit → Seconds → Reached
-reachedOrbitBy pr o tau = reachedBegunBy pr (begunOf o) tau
+unfoldable pub reachedOrbitBy : Parting → Proposing → Orbit → WholeInterval → Reached
+reachedOrbitBy pt pr o whole = reachedBegunBy pt pr (begunOf o) whole
 
 -- Refusal 2: "any of the eight is NaN or infinite".
-abbrev pub reachedReadBy : Proposing → Read → Reached
-reachedReadBy pr (read.NotFinite k) = reached.Refused 2 0
-reachedReadBy pr (read.Orbit o tau) = reachedOrbitBy pr o tau
+abbrev pub reachedReadBy : Parting → Proposing → Read → Reached
+reachedReadBy pt pr (read.NotFinite k) = reached.Refused 2 0
+reachedReadBy pt pr (read.Orbit o whole) = reachedOrbitBy pt pr o whole
 
-unfoldable pub reachedWordsBy : Proposing → List ℕ → Reached
-reachedWordsBy pr words = reachedReadBy pr (readOf words)
+unfoldable pub reachedWordsBy : Parting → Proposing → List ℕ → Reached
+reachedWordsBy pt pr words = reachedReadBy pt pr (readOf words)
 
 -- Refusals 7 and 8, with the points used.
 unfoldable pub endedAnswer : (points : ℕ) → Ended → Answer
@@ -85,27 +100,30 @@ abbrev pub answerFrom : Reached → Answer
 answerFrom (reached.Refused k n) = refused k n
 answerFrom (reached.End arc n) = endedAnswer n (endedOf arc)
 
-unfoldable pub propagateBy : Proposing → List ℕ → Answer
-propagateBy pr words = answerFrom (reachedWordsBy pr words)
+unfoldable pub propagateBy : Parting → Proposing → List ℕ → Answer
+propagateBy pt pr words = answerFrom (reachedWordsBy pt pr words)
 
--- ---- The same by the three proposals of document 01.
-abbrev pub reachedFrom : Start → Seconds → Reached
-reachedFrom = reachedFromBy threeProposals
+-- ---- The same by T-04's rule and the three proposals of document 01.
+abbrev pub reachedOver : Start → Interval → Reached
+reachedOver = reachedOverBy threeProposals
 
-abbrev pub reachedBegun : Begun → Seconds → Reached
-reachedBegun = reachedBegunBy threeProposals
+abbrev pub reachedFrom : Start → WholeInterval → Reached
+reachedFrom = reachedFromBy intervalOf threeProposals
 
-abbrev pub reachedOrbit : Orbit → Seconds → Reached
-reachedOrbit = reachedOrbitBy threeProposals
+abbrev pub reachedBegun : Begun → WholeInterval → Reached
+reachedBegun = reachedBegunBy intervalOf threeProposals
+
+abbrev pub reachedOrbit : Orbit → WholeInterval → Reached
+reachedOrbit = reachedOrbitBy intervalOf threeProposals
 
 abbrev pub reachedRead : Read → Reached
-reachedRead = reachedReadBy threeProposals
+reachedRead = reachedReadBy intervalOf threeProposals
 
 abbrev pub reachedOf : List ℕ → Reached
-reachedOf = reachedWordsBy threeProposals
+reachedOf = reachedWordsBy intervalOf threeProposals
 
 abbrev pub propagateOf : List ℕ → Answer
-propagateOf = propagateBy threeProposals
+propagateOf = propagateBy intervalOf threeProposals
 
 -- ---- An answer as words: refusal, points, position, velocity, end acceleration, start acceleration, ψ.
 unfoldable pub answerWords : Answer → List ℕ

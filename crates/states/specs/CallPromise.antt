@@ -13,38 +13,50 @@ use Rattle.search_rule.specs.RulePromise.{Findable, IsAnomaly}
 use Rattle.search.specs.Search.{Proposing}
 use Rattle.search.specs.SearchPromise.{triedBy}
 use Rattle.series.specs.declared.figures.Seconds.{Seconds}
+use Rattle.states_revolutions.specs.Revolutions.{intervalOf}
+use Rattle.states_revolutions.specs.declared.figures.WholeInterval.{WholeInterval}
+use Rattle.states_revolutions.specs.declared.figures.Interval.{Interval}
+use Rattle.states_revolutions.specs.declared.figures.Off.the-variants as off
 use Rattle.states_arcs.specs.Results.{arcOf, resultsOf}
 use Rattle.states_start.specs.Given.{readOf}
 use Rattle.states_start.specs.Initial.{begunOf, firstStepOf}
-use Rattle.states.specs.Call.{refused, answered, noResults, propagateBy}
+use Rattle.states.specs.Call.{Parting, wholly, refused, answered, noResults, reachedWordsBy, propagateBy}
 use Rattle.states.specs.WithPartials.{partialsBy, lentBy}
 use Rattle.states_start.specs.declared.figures.Orbit.{Orbit}
 use Rattle.states_start.specs.declared.figures.Start.{Start}
 use Rattle.states_start.specs.declared.figures.Read.the-variants as read
 use Rattle.states_start.specs.declared.figures.Begun.the-variants as begun
+use Rattle.states.specs.declared.figures.Reached.the-variants as reached
 use Rattle.states.specs.declared.figures.Answer.{Answer}
 
 -- Demand 1: "A bad number, a zero radius, an unreachable time or a damaged file gets the one refusal that the rules give it, with zeros for figures and lent memory
 -- unchanged." Which refusal it is, and that there is one, is what the definitions of the calls say.
 abbrev pub ZerosOrAnswer : Type 0
-ZerosOrAnswer = (pr : Proposing) (words : List ℕ) → (propagateBy pr words .refusal ≡ 0) ⊎ (propagateBy pr words .results ≡ noResults)
+ZerosOrAnswer = (pt : Parting) (pr : Proposing) (words : List ℕ) → (propagateBy pt pr words .refusal ≡ 0) ⊎ (propagateBy pt pr words .results ≡ noResults)
 
 abbrev pub UnchangedOrAnswer : Type 0
 UnchangedOrAnswer =
-    (pr : Proposing) (words run : List ℕ) →
-    (partialsBy pr words run .refusal ≡ 0) ⊎ ((partialsBy pr words run .results ≡ noResults) × (lentBy pr words run ≡ run))
+    (pt : Parting) (pr : Proposing) (words run : List ℕ) →
+    (partialsBy pt pr words run .refusal ≡ 0) ⊎ ((partialsBy pt pr words run .results ≡ noResults) × (lentBy pt pr words run ≡ run))
 
--- "initial figures that pass refusals 1 to 4": the call gets as far as the search.
-pub record Searches (words : List ℕ) : Type 0 where
+-- "initial figures that pass refusals 1 to 4": the call gets as far as the search. T-04: "H and demands 2 and 3 then speak of the reduced interval".
+pub record Searches (pt : Parting) (words : List ℕ) : Type 0 where
   pub orbit : Orbit
-  pub tau : Seconds
+  pub whole : WholeInterval
   pub start : Start
   -- Not refused by 2.
-  pub reads : readOf words ≡ read.Orbit orbit tau
+  pub reads : readOf words ≡ read.Orbit orbit whole
   -- Not by 3, nor by 4 but for H.
   pub begins : begunOf orbit ≡ begun.Start start
   -- Nor for H.
-  pub steps : isFinite (firstStepOf (start .initial) tau .0) ≡ true
+  pub steps : isFinite (firstStepOf (start .initial) (pt (start .course) whole .searched) .0) ≡ true
+
+-- The interval of such a call, and the part of it that is searched.
+abbrev pub intervalIn : {pt : Parting} {words : List ℕ} → Searches pt words → Interval
+intervalIn {pt = pt} s = pt (s .start .course) (s .whole)
+
+abbrev pub searchedIn : {pt : Parting} {words : List ℕ} → Searches pt words → Seconds
+searchedIn s = intervalIn s .searched
 
 -- The place of |H|, from which it searches.
 abbrev pub firstPlace : Start → Seconds → ℕ
@@ -53,36 +65,55 @@ firstPlace s tau = placeOf (firstStepOf (s .initial) tau .0)
 -- "At most 167 trial points are spent, and the reported number is how many the search used. The call answers with that anomaly or refuses by 7 or 8 alone."
 -- The anomaly is `anomalyAt tau place`. Since T-01 it reads: "a zero error, or one end of an adjacent short and past pair, chosen so". That is `IsAnomaly`; what it says by
 -- sorts is said by document 01's R in `sorts-mean` of crate `search_points`.
-pub record AnswersAt (pr : Proposing) (s : Start) (tau : Seconds) (a : Answer) : Type 0 where
+pub record AnswersAt (pr : Proposing) (s : Start) (d : Interval) (a : Answer) : Type 0 where
   pub place : ℕ
   pub points : ℕ
-  pub anomaly : IsAnomaly (trialAt (s .initial) tau) place
-  pub used : points ≡ length (triedBy (pr (s .initial) tau) (s .initial) tau (firstPlace s tau))
+  pub anomaly : IsAnomaly (trialAt (s .initial) (d .searched)) place
+  pub used : points ≡ length (triedBy (pr (s .initial) (d .searched)) (s .initial) (d .searched) (firstPlace s (d .searched)))
   pub at-most : points ≤ 167
   pub answer :
-      (a ≡ answered points (resultsOf (arcOf s tau (anomalyAt tau place))))
+      (a ≡ answered points (resultsOf (arcOf s d (anomalyAt (d .searched) place))))
       ⊎ ((a ≡ refused 7 points) ⊎ (a ≡ refused 8 points))
 
--- The number that is reported, and ψ of an answer.
-pub record Reports (pr : Proposing) (s : Start) (tau : Seconds) (a : Answer) : Type 0 where
-  pub at : AnswersAt pr s tau a
+-- The number that is reported, and ψ of an answer: T-04, "the ψ handed out is the reduced one".
+pub record Reports (pr : Proposing) (s : Start) (d : Interval) (a : Answer) : Type 0 where
+  pub at : AnswersAt pr s d a
   pub reported : a .points ≡ at .points
-  pub psi : a .refusal ≡ 0 → a .results .psi ≡ anomalyAt tau (at .place)
+  pub psi : a .refusal ≡ 0 → a .results .psi ≡ anomalyAt (d .searched) (at .place)
 
 -- Demand 3, whole, for both calls: "Take nonzero time and initial figures that pass refusals 1 to 4. If some of the 41 outward trial points isn't short of the
 -- time, and no double from zero to the first such point is unreadable, an anomaly is found. .. All but the number's exact size must hold whatever formula proposes
--- the inner points, one a round." `Findable` is the premise; `pr` is the formula; the record has the rest.
+-- the inner points, one a round." `Findable` is the premise; `pr` is the formula; the record has the rest. The time is the one that is searched, whatever comes off.
 abbrev pub FindsAnomaly : Type 0
 FindsAnomaly =
-    (pr : Proposing) (words : List ℕ) (s : Searches words) → eq (s .tau .0) n0 ≡ false →
-    Findable (trialAt (s .start .initial) (s .tau)) (firstPlace (s .start) (s .tau)) →
-    Reports pr (s .start) (s .tau) (propagateBy pr words)
-    × ((run : List ℕ) → length run ≡ 36 → Reports pr (s .start) (s .tau) (partialsBy pr words run))
+    (pt : Parting) (pr : Proposing) (words : List ℕ) (s : Searches pt words) → eq (searchedIn s .0) n0 ≡ false →
+    Findable (trialAt (s .start .initial) (searchedIn s)) (firstPlace (s .start) (searchedIn s)) →
+    Reports pr (s .start) (intervalIn s) (propagateBy pt pr words)
+    × ((run : List ℕ) → length run ≡ 36 → Reports pr (s .start) (intervalIn s) (partialsBy pt pr words run))
 
 -- T-01, "Point counts stay", of both calls, however they end: the points are those of the history, which does not know which end is answered.
 abbrev pub CountsPoints : Type 0
 CountsPoints =
-    (pr : Proposing) (words : List ℕ) (s : Searches words) → eq (s .tau .0) n0 ≡ false →
+    (pt : Parting) (pr : Proposing) (words : List ℕ) (s : Searches pt words) → eq (searchedIn s .0) n0 ≡ false →
     let i = s .start .initial in
-    let used = length (triedBy (pr i (s .tau)) i (s .tau) (firstPlace (s .start) (s .tau))) in
-    (propagateBy pr words .points ≡ used) × ((run : List ℕ) → length run ≡ 36 → partialsBy pr words run .points ≡ used)
+    let tau = searchedIn s in
+    let used = length (triedBy (pr i tau) i tau (firstPlace (s .start) tau)) in
+    (propagateBy pt pr words .points ≡ used) × ((run : List ℕ) → length run ≡ 36 → partialsBy pt pr words run .points ≡ used)
+
+-- T-04: "if that interval is zero, ψ is +0 with no points". Then both calls go on from the arc at +0.
+abbrev pub NothingSearched : Type 0
+NothingSearched =
+    (pt : Parting) (pr : Proposing) (words : List ℕ) (s : Searches pt words) → eq (searchedIn s .0) n0 ≡ true →
+    reachedWordsBy pt pr words ≡ reached.End (arcOf (s .start) (intervalIn s) (record { 0 = n0 })) 0
+
+-- T-04, "else 01 stands": no revolution comes off what the words ask for.
+abbrev pub NoneComesOff : List ℕ → Type 0
+NoneComesOff words =
+    (o : Orbit) (whole : WholeInterval) (s : Start) → readOf words ≡ read.Orbit o whole → begunOf o ≡ begun.Start s → intervalOf (s .course) whole .off ≡ off.Nothing
+
+-- Then every word of every answer, and of the lent run, is that of the call that takes nothing off.
+abbrev pub Else01Stands : Type 0
+Else01Stands =
+    (pr : Proposing) (words : List ℕ) → NoneComesOff words →
+    (propagateBy intervalOf pr words ≡ propagateBy wholly pr words)
+    × ((run : List ℕ) → (partialsBy intervalOf pr words run ≡ partialsBy wholly pr words run) × (lentBy intervalOf pr words run ≡ lentBy wholly pr words run))

@@ -13,10 +13,11 @@ use Rattle.states_arcs.specs.declared.figures.Results.{Results}
 use Rattle.states_arcs.specs.declared.figures.Ended.{Ended}
 use Rattle.states_arcs.specs.declared.figures.Ended.the-variants as ended
 use Rattle.states_partials.specs.Partials.{partialsRefusal, lentAfter}
+use Rattle.states_revolutions.specs.Revolutions.{intervalOf}
 use Rattle.states.specs.declared.figures.Reached.{Reached}
 use Rattle.states.specs.declared.figures.Reached.the-variants as reached
 use Rattle.states.specs.declared.figures.Answer.{Answer}
-use Rattle.states.specs.Call.{refused, answered, reachedWordsBy}
+use Rattle.states.specs.Call.{Parting, refused, answered, reachedWordsBy}
 
 -- The answer, and what the lent run holds afterwards. Where nothing else is refused, refusal 8 by the partials' own divisors and figures.
 unfoldable pub withPartials : Arc → (points : ℕ) → Results → List ℕ → Answer
@@ -39,15 +40,15 @@ lentFrom (reached.Refused k n) run = run
 lentFrom (reached.End arc n) run = lentEnded arc (endedOf arc) run
 
 -- Refusal 1, before all others: "partials are asked for and the lent run isn't exactly 36 long".
-unfoldable pub partialsBy : Proposing → List ℕ → List ℕ → Answer
-partialsBy pr words run = pick (not (eqb (length run) 36)) (refused 1 0) (partialsFrom (reachedWordsBy pr words) run)
+unfoldable pub partialsBy : Parting → Proposing → List ℕ → List ℕ → Answer
+partialsBy pt pr words run = pick (not (eqb (length run) 36)) (refused 1 0) (partialsFrom (reachedWordsBy pt pr words) run)
 
-unfoldable pub lentBy : Proposing → List ℕ → List ℕ → List ℕ
-lentBy pr words run = pick (not (eqb (length run) 36)) run (lentFrom (reachedWordsBy pr words) run)
+unfoldable pub lentBy : Parting → Proposing → List ℕ → List ℕ → List ℕ
+lentBy pt pr words run = pick (not (eqb (length run) 36)) run (lentFrom (reachedWordsBy pt pr words) run)
 
--- The same by the three proposals of document 01.
+-- The same by T-04's rule and the three proposals of document 01.
 abbrev pub partialsOf : List ℕ → List ℕ → Answer
-partialsOf = partialsBy threeProposals
+partialsOf = partialsBy intervalOf threeProposals
 
 abbrev pub lentOf : List ℕ → List ℕ → List ℕ
-lentOf = lentBy threeProposals
+lentOf = lentBy intervalOf threeProposals

@@ -1,12 +1,13 @@
 // The call without partials, and what the two calls share: refusals in order of checking, and the answer.
 ghost use mathlib.Core.Path.{_≡_};
-ghost use Rattle.states.specs.Call.{refused, answered, reachedFound, reachedFrom, reachedOrbit, reachedOf, endedAnswer, propagateOf};
+ghost use Rattle.states.specs.Call.{refused, answered, reachedFound, reachedOver, reachedFrom, reachedOrbit, reachedOf, endedAnswer, propagateOf};
 use super::figures::Answer;
 use super::figures::Reached;
 use series::Anomaly;
-use series::Seconds;
 use states_arcs::Ended;
 use states_arcs::Results;
+use states_revolutions::Interval;
+use states_revolutions::WholeInterval;
 use states_start::Begun;
 use states_start::Orbit;
 use states_start::Read;
@@ -52,36 +53,45 @@ pub fn answered_with(points: u64, results: Results) -> Answer
 }
 
 // What a search of the interval reaches from a start: refusals 5 and 6, or the arc of the found anomaly.
-fn reached_found(start: Start, tau: Seconds, found: search::Finding) -> Reached
-    ensures { λ r. ⌜ r ≡ reachedFound start tau found ⌝ }
+fn reached_found(start: Start, interval: Interval, found: search::Finding) -> Reached
+    ensures { λ r. ⌜ r ≡ reachedFound start interval found ⌝ }
 {
     match found {
         search::Finding::Found { psi, points } => {
-            Reached::End(states_arcs::arc_at(start, tau, psi), points)
+            Reached::End(states_arcs::arc_at(start, interval, psi), points)
         }
         search::Finding::AllShort { points } => Reached::Refused(5, points),
         search::Finding::Unreadable { points } => Reached::Refused(6, points),
     }
 }
 
-// From a start over an interval: refusal 4 by H, then the search. One batch of requests of one orbit can share its start.
-fn reach_from(start: Start, tau: Seconds) -> Reached
-    ensures { λ r. ⌜ r ≡ reachedFrom start tau ⌝ }
+// From a start over an interval whose revolutions are off: refusal 4 by H, then the search.
+fn reach_over(start: Start, interval: Interval) -> Reached
+    ensures { λ r. ⌜ r ≡ reachedOver start interval ⌝ }
 {
     let initial = start.initial;
+    let tau = interval.searched;
     let h = states_start::first_step(initial, tau);
     if !bits::words::is_finite(h.0) {
         return Reached::Refused(4, 0);
     }
-    reached_found(start, tau, search::search(initial, tau, h))
+    reached_found(start, interval, search::search(initial, tau, h))
 }
 
-// From an orbit over an interval: refusals 3 and 4 by the orbit, then the interval.
-fn reach_orbit(orbit: Orbit, tau: Seconds) -> Reached
-    ensures { λ r. ⌜ r ≡ reachedOrbit orbit tau ⌝ }
+// From a start over a whole interval: its revolutions come off first. One batch of requests of one orbit can share its start.
+fn reach_from(start: Start, whole: WholeInterval) -> Reached
+    ensures { λ r. ⌜ r ≡ reachedFrom start whole ⌝ }
+{
+    let course = start.course;
+    reach_over(start, states_revolutions::interval_of(course, whole))
+}
+
+// From an orbit over a whole interval: refusals 3 and 4 by the orbit, then the interval.
+fn reach_orbit(orbit: Orbit, whole: WholeInterval) -> Reached
+    ensures { λ r. ⌜ r ≡ reachedOrbit orbit whole ⌝ }
 {
     match states_start::start_of(orbit) {
-        Begun::Start(start) => reach_from(start, tau),
+        Begun::Start(start) => reach_from(start, whole),
         Begun::Refused(refusal) => Reached::Refused(refusal, 0),
     }
 }
@@ -91,7 +101,7 @@ pub fn reach(words: [u64; 8]) -> Reached
     ensures { λ r. ⌜ r ≡ reachedOf words ⌝ }
 {
     match states_start::orbit_of(words) {
-        Read::Orbit(orbit, tau) => reach_orbit(orbit, tau),
+        Read::Orbit(orbit, whole) => reach_orbit(orbit, whole),
         Read::NotFinite(_) => Reached::Refused(2, 0),
     }
 }

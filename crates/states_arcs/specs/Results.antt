@@ -13,6 +13,7 @@ use Rattle.series.specs.declared.figures.Seconds.{Seconds}
 use Rattle.series.specs.declared.figures.Sums.{Sums}
 use Rattle.search_points.specs.Residual.{radiusOf, termsOf}
 use Rattle.search_points.specs.declared.figures.Initial.{Initial}
+use Rattle.states_revolutions.specs.declared.figures.Interval.{Interval}
 use Rattle.states_start.specs.declared.figures.Vector.{Vector}
 use Rattle.states_start.specs.declared.figures.State.{State}
 use Rattle.states_start.specs.declared.figures.Start.{Start}
@@ -22,7 +23,7 @@ use Rattle.states_arcs.specs.declared.figures.Results.{Results}
 use Rattle.states_arcs.specs.declared.figures.Ended.{Ended}
 use Rattle.states_arcs.specs.declared.figures.Ended.the-variants as ended
 
--- "f = 1−(μ·s2)/r0; g = τ−μ·s3; f' = −((μ·s1)/(r·r0)); g' = 1−(μ·s2)/r"
+-- "f = 1−(μ·s2)/r0; g = τ−μ·s3; f' = −((μ·s1)/(r·r0)); g' = 1−(μ·s2)/r"; T-04: "the search and f, g use τ − n·P".
 unfoldable pub factorsOf : Initial → Seconds → Sums → (r : Float) → Factors
 factorsOf i tau s r =
     record {
@@ -45,14 +46,14 @@ endStateOf k s =
     }
 
 -- All of this at the found ψ, with its c0 to c5, its s1 to s3 and its r.
-unfoldable pub arcOf : Start → Seconds → Anomaly → Arc
-arcOf start tau psi =
+unfoldable pub arcOf : Start → Interval → Anomaly → Arc
+arcOf start interval psi =
     let i = start .initial in
     let c = coefficientsOf (i .alpha) psi in
     let s = sumsOf psi c in
     let r = radiusOf i (termsOf (c .c0) s) in
-    let k = factorsOf i tau s r in
-    record { start = start; tau = tau; psi = psi; c = c; s = s; r = r; factors = k; end = endStateOf k (start .state) }
+    let k = factorsOf i (interval .searched) s r in
+    record { start = start; interval = interval; psi = psi; c = c; s = s; r = r; factors = k; end = endStateOf k (start .state) }
 
 -- "Acceleration is ((−μ)·x)/((r·r)·r) with the position and radius of its own time."
 unfoldable pub accelerationOf : (mu r : Float) → Vector → Vector

@@ -1,8 +1,8 @@
 // The quantities of an arc. Lengths are in km, times in s.
 use series::Anomaly;
 use series::Coefficients;
-use series::Seconds;
 use series::Sums;
+use states_revolutions::Interval;
 use states_start::Start;
 use states_start::State;
 use states_start::Vector;
@@ -15,11 +15,11 @@ pub struct Factors {
     pub gprime: f64,
 }
 
-// The way from a start to its end: the start, the interval, the found anomaly with its series and its radius r (km), the factors, and the state at the end.
-// The results and the partials are made of it.
+// The way from a start to its end: the start, the interval, whole and as it was searched, the found anomaly with its series and its radius r (km), the factors,
+// and the state at the end. The results and the partials are made of it.
 pub struct Arc {
     pub start: Start,
-    pub tau: Seconds,
+    pub interval: Interval,
     pub psi: Anomaly,
     pub c: Coefficients,
     pub s: Sums,

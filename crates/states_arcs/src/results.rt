@@ -13,11 +13,12 @@ use search_points::radius;
 use series::Anomaly;
 use series::Seconds;
 use series::Sums;
+use states_revolutions::Interval;
 use states_start::Start;
 use states_start::State;
 use states_start::Vector;
 
-// f, g, f' and g' at the anomaly whose sums are s and whose radius is r.
+// f, g, f' and g' at the anomaly whose sums are s and whose radius is r. tau is the interval that was searched.
 fn factors_at(initial: Initial, tau: Seconds, s: Sums, r: f64) -> Factors
     ensures { λ k. ⌜ k ≡ factorsOf initial tau s r ⌝ }
 {
@@ -46,9 +47,9 @@ fn end_state(k: Factors, start: State) -> State
     State { position, velocity }
 }
 
-// The arc from a start over tau, at the found anomaly psi. Its figures may be anything: `ended` tests them.
-pub fn arc_at(start: Start, tau: Seconds, psi: Anomaly) -> Arc
-    ensures { λ a. ⌜ a ≡ arcOf start tau psi ⌝ }
+// The arc from a start over an interval, at the anomaly psi that was found. Its figures may be anything: `ended` tests them.
+pub fn arc_at(start: Start, interval: Interval, psi: Anomaly) -> Arc
+    ensures { λ a. ⌜ a ≡ arcOf start interval psi ⌝ }
 {
     let initial = start.initial;
     let c = series::coefficients(initial.alpha, psi);
@@ -59,11 +60,11 @@ pub fn arc_at(start: Start, tau: Seconds, psi: Anomaly) -> Arc
         s2: s.s2,
     };
     let r = radius(initial, terms);
-    let factors = factors_at(initial, tau, s, r);
+    let factors = factors_at(initial, interval.searched, s, r);
     let end = end_state(factors, start.state);
     Arc {
         start,
-        tau,
+        interval,
         psi,
         c,
         s,

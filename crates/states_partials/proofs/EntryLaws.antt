@@ -15,7 +15,8 @@ use Rattle.bits.specs.Words.{wordsOf}
 use Rattle.bits.specs.Runs.{has}
 use Rattle.bits.specs.declared.runs.Sought.the-variants.{Zero, NotFinite}
 use Rattle.states_arcs.specs.declared.figures.Arc.{Arc}
-use Rattle.states_partials.specs.Matrix.{uOf, matrixOf, matrixDivisors}
+use Rattle.states_partials.specs.U.{uOf, uRefused}
+use Rattle.states_partials.specs.Matrix.{matrixOf, matrixDivisors}
 use Rattle.states_partials.specs.Entries.{entryOf, upTo, entriesOf}
 use Rattle.states_partials.specs.Partials.{partialsRefusal, lentAfter}
 
@@ -48,12 +49,13 @@ by-row-and-column arc row column h l =
 -- To a run of 36 words they are written, or they are refused by 8;
 pub zero-or-eight : (arc : Arc) (run : List ℕ) → length run ≡ 36 → (partialsRefusal arc run ≡ 0) ⊎ (partialsRefusal arc run ≡ 8)
 unfolding partialsRefusal
-zero-or-eight arc run h = rw (eq-eqb (length run) 36 h) (go (has Zero (wordsOf (matrixDivisors (arc .start .initial .r0) (arc .r)))) (has NotFinite (wordsOf (entriesOf arc))))
+zero-or-eight arc run h = rw (eq-eqb (length run) 36 h) (go (has Zero (wordsOf (matrixDivisors (arc .start .initial .r0) (arc .r)))) (uRefused arc) (has NotFinite (wordsOf (entriesOf arc))))
   where
-    go : (zero bad : Bool) → let n : ℕ = pick zero 8 (pick bad 8 0) in (n ≡ 0) ⊎ (n ≡ 8)
-    go true bad = inr refl
-    go false true = inr refl
-    go false false = inl refl
+    go : (zero whole bad : Bool) → let n : ℕ = pick zero 8 (pick whole 8 (pick bad 8 0)) in (n ≡ 0) ⊎ (n ≡ 8)
+    go true whole bad = inr refl
+    go false true bad = inr refl
+    go false false true = inr refl
+    go false false false = inl refl
 
 -- and where they are refused, the run is as it was.
 pub kept : (arc : Arc) (run : List ℕ) → (partialsRefusal arc run ≡ 0 → ⊥) → lentAfter arc run ≡ run

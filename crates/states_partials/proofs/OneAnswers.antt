@@ -1,8 +1,10 @@
 -- Any two answers, with what they leave in lent runs, that the promise of a public function allows are equal: each promise names them.
 use mathlib.Core.Path.{refl, sym, _∙_}
 use Rattle.bits.specs.OneAnswer.{OneAnswer}
-use Rattle.states_partials.proofs.matrix.u_of.Kinds as u-of-kinds
-use Rattle.states_partials.proofs.matrix.u_of.Reads as u-of-reads
+use Rattle.states_partials.proofs.u.u_of.Kinds as u-of-kinds
+use Rattle.states_partials.proofs.u.u_of.Reads as u-of-reads
+use Rattle.states_partials.proofs.u.u_refused.Kinds as u-refused-kinds
+use Rattle.states_partials.proofs.u.u_refused.Reads as u-refused-reads
 use Rattle.states_partials.proofs.matrix.matrix_of.Kinds as matrix-of-kinds
 use Rattle.states_partials.proofs.matrix.matrix_of.Reads as matrix-of-reads
 use Rattle.states_partials.proofs.matrix.matrix_divisors.Kinds as matrix-divisors-kinds
@@ -12,6 +14,9 @@ use Rattle.states_partials.proofs.write_partials.Reads as write-partial
 
 pub u-of : OneAnswer 0 u-of-kinds.ps u-of-kinds.r u-of-reads.Post
 u-of κs a x y v w p q = (p ∙ sym q, refl)
+
+pub u-refused : OneAnswer 0 u-refused-kinds.ps u-refused-kinds.r u-refused-reads.Post
+u-refused κs a x y v w p q = (p ∙ sym q, refl)
 
 pub matrix-of : OneAnswer 0 matrix-of-kinds.ps matrix-of-kinds.r matrix-of-reads.Post
 matrix-of κs a x y v w p q = (p ∙ sym q, refl)

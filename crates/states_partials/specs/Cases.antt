@@ -3,7 +3,9 @@ use mathlib.Core.Path.{_≡_, refl}
 use mathlib.Core.List.{[], _∷_}
 use lib.Ieee.{add, sub, mul, div, neg, ofBits, toBits}
 use Rattle.states_arcs.specs.Cases.{arc}
-use Rattle.states_partials.specs.Matrix.{uOf, matrixOf}
+use Rattle.states_revolutions.specs.Revolutions.{asItIs}
+use Rattle.states_partials.specs.U.{uAtFound, uOf}
+use Rattle.states_partials.specs.Matrix.{matrixOf}
 use Rattle.states_partials.specs.Entries.{plusOf, minusOf, partialOf, unitOf, componentOf, entryOf, upTo, entriesOf}
 use Rattle.bits.specs.Words.{wordsOf}
 
@@ -16,5 +18,5 @@ its-partials :
     ∷ 0x3ff20811bb875a96 ∷ 0x3fd18395d6fe108e ∷ 0xbfcdc62b8c36f312 ∷ 0x3fe53bff4697c7e0 ∷ 0x3ff59680c736e60c ∷ 0x3f7de32b49187b38
     ∷ 0xbfbdf0b460e49378 ∷ 0xbf9654f140e4a5e0 ∷ 0xbfe07bfc20471f4f ∷ 0x3f8fa5b7c8501630 ∷ 0x3fb06e3188503b04 ∷ 0x3fe40dae76baaa96
     ∷ []
-unfolding add sub mul div neg ofBits toBits uOf matrixOf plusOf minusOf partialOf unitOf componentOf entryOf upTo entriesOf arc
+unfolding add sub mul div neg ofBits toBits asItIs uAtFound uOf matrixOf plusOf minusOf partialOf unitOf componentOf entryOf upTo entriesOf arc
 its-partials = refl

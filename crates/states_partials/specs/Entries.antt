@@ -9,7 +9,8 @@ use Rattle.bits.specs.Arithmetic.{_⊕_, _⊖_, _⊗_, n0, n1}
 use Rattle.states_start.specs.declared.figures.Vector.{Vector}
 use Rattle.states_arcs.specs.declared.figures.Factors.{Factors}
 use Rattle.states_arcs.specs.declared.figures.Arc.{Arc}
-use Rattle.states_partials.specs.Matrix.{uOf, matrixOf}
+use Rattle.states_partials.specs.U.{uOf}
+use Rattle.states_partials.specs.Matrix.{matrixOf}
 use Rattle.states_partials.specs.declared.matrix.Matrix.{Matrix}
 
 -- "Let p, w be a component of the result's position and velocity, q, u one of the start's. The partial of p by q is

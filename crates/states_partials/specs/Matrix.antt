@@ -1,23 +1,9 @@
--- Document 01, "Results and partials": U and A11 to A33, and what they divide by.
-use mathlib.Core.Path.{refl}
+-- Document 01, "Results and partials": A11 to A33, from U, and what they divide by.
 use mathlib.Core.List.{List, [], _∷_}
-use lib.Ieee.{Float, binary64, neg, ofBits, ofInt}
-use Rattle.bits.specs.Arithmetic.{_⊕_, _⊖_, _⊗_, _⊘_, n1, AreWhole}
+use lib.Ieee.{Float, neg}
+use Rattle.bits.specs.Arithmetic.{_⊕_, _⊖_, _⊗_, _⊘_, n1}
 use Rattle.states_arcs.specs.declared.figures.Arc.{Arc}
 use Rattle.states_partials.specs.declared.matrix.Matrix.{Matrix}
-
-abbrev pub n3 : Float
-n3 = ofBits binary64 0x4008000000000000
-
-whole-number : AreWhole ((n3, 3) ∷ [])
-unfolding ofBits ofInt
-whole-number = (refl, tt)
-
--- "U = s2·τ + (μ·(c4−3·c5))·((((ψ·ψ)·ψ)·ψ)·ψ)"
-unfoldable pub uOf : Arc → Float
-uOf a =
-    let psi = a .psi .0 in
-    a .s .s2 ⊗ a .tau .0 ⊕ (a .start .initial .mu ⊗ (a .c .c4 ⊖ n3 ⊗ a .c .c5)) ⊗ ((((psi ⊗ psi) ⊗ psi) ⊗ psi) ⊗ psi)
 
 -- "With r³ = (r·r)·r and r0³ likewise"
 abbrev pub cube : Float → Float

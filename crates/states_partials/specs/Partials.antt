@@ -1,4 +1,4 @@
--- Document 01: "The 36 partials go to a lent run", as words, with the partials' part of refusals 1 and 8.
+-- Document 01: "The 36 partials go to a lent run", as words, with the partials' part of refusals 1 and 8, and what T-04 adds to 8.
 use mathlib.Core.Bool.{not}
 use mathlib.Core.List.{List}
 use Prim.Native.Nat.{ℕ}
@@ -9,6 +9,7 @@ use Rattle.bits.specs.Runs.{has}
 use Rattle.bits.specs.declared.runs.Sought.the-variants.{Zero, NotFinite}
 use Rattle.bits.specs.Choice.{pick}
 use Rattle.states_arcs.specs.declared.figures.Arc.{Arc}
+use Rattle.states_partials.specs.U.{uRefused}
 use Rattle.states_partials.specs.Matrix.{matrixDivisors}
 use Rattle.states_partials.specs.Entries.{entriesOf}
 
@@ -17,8 +18,9 @@ unfoldable pub partialsRefusal : Arc → List ℕ → ℕ
 partialsRefusal arc run =
     pick (not (eqb (length run) 36)) 1
     (pick (has Zero (wordsOf (matrixDivisors (arc .start .initial .r0) (arc .r)))) 8
+    (pick (uRefused arc) 8
     (pick (has NotFinite (wordsOf (entriesOf arc))) 8
-    0))
+    0)))
 
 -- What the lent run holds afterwards: all of the partials or none.
 unfoldable pub lentAfter : Arc → List ℕ → List ℕ

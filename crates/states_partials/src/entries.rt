@@ -5,7 +5,7 @@ ghost use Rattle.bits.specs.Words.{wordsOf};
 ghost use Rattle.states_partials.specs.Entries.{plusOf, minusOf, partialOf, componentOf, unitOf, entryOf, entriesOf};
 use super::matrix::Matrix;
 use super::matrix::matrix_of;
-use super::matrix::u_of;
+use super::u::u_of;
 use bits::words::word_of;
 use states_arcs::Arc;
 use states_arcs::Factors;

@@ -1,7 +1,7 @@
-// Layer 4, what the partials of an arc are made of: U, and A11 to A33 (document 01, "Results and partials").
+// A11 to A33, of which the partials are made (document 01, "Results and partials").
 ghost use mathlib.Core.Path.{_≡_};
 ghost use Rattle.bits.specs.Words.{wordsOf};
-ghost use Rattle.states_partials.specs.Matrix.{uOf, matrixOf, matrixDivisors};
+ghost use Rattle.states_partials.specs.Matrix.{matrixOf, matrixDivisors};
 use bits::words::word_of;
 use states_arcs::Arc;
 
@@ -16,15 +16,6 @@ pub struct Matrix {
     pub a31: f64,
     pub a32: f64,
     pub a33: f64,
-}
-
-// U (s^3/km^2).
-pub fn u_of(arc: Arc) -> f64
-    ensures { λ u. ⌜ u ≡ uOf arc ⌝ }
-{
-    let psi = arc.psi.0;
-    arc.s.s2 * arc.tau.0
-        + (arc.start.initial.mu * (arc.c.c4 - 3.0 * arc.c.c5)) * ((((psi * psi) * psi) * psi) * psi)
 }
 
 // A11 to A33, from U.

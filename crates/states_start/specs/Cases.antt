@@ -3,10 +3,13 @@
 use mathlib.Core.Path.{_≡_, refl}
 use mathlib.Core.List.{List, [], _∷_}
 use Prim.Native.Nat.{ℕ}
-use lib.Ieee.{binary64, add, sub, mul, div, eq, ofBits, toBits}
+use lib.Ieee.{binary64, add, sub, mul, div, neg, lt, eq, ofBits, toBits}
 use Rattle.bits.specs.Runs.{firstOf, has}
 use Rattle.bits.specs.Root.{rootWordOf, rootOf}
 use Rattle.search_points.specs.declared.figures.Initial.{Initial}
+use Rattle.states_revolutions.specs.Revolutions.{revolutionOf, isClosed, isUsable, courseOf}
+use Rattle.states_revolutions.specs.declared.figures.Course.{Course}
+use Rattle.states_revolutions.specs.declared.figures.Course.the-variants.{Closed}
 use Rattle.states_start.specs.Given.{orbit, interval, readOf}
 use Rattle.states_start.specs.Initial.{dot, begunOf, firstStepOf}
 use Rattle.states_start.specs.declared.figures.Read.the-variants as read
@@ -17,7 +20,7 @@ named : readOf (0 ∷ 0 ∷ 0 ∷ 0 ∷ 0 ∷ 0x7ff0000000000000 ∷ 0 ∷ 0xfff
 unfolding firstOf has readOf eq ofBits
 named = refl
 
--- μ = 1, position (1, 0.25, -0.5), velocity (0.125, 1, 0.5), τ = 1.5: r0, σ0, α and H.
+-- μ = 1, position (1, 0.25, -0.5), velocity (0.125, 1, 0.5), τ = 1.5: r0, σ0, α, the course and H.
 an-orbit : List ℕ
 an-orbit =
     0x3ff0000000000000 ∷ 0x3ff0000000000000 ∷ 0x3fd0000000000000 ∷ 0xbfe0000000000000
@@ -33,9 +36,13 @@ its-initial =
       alpha = ofBits binary64 0xbfdeba415bee70e4;
     }
 
+-- Its period and the anomaly that goes by: 18.89 s and 9.07 s/km.
+its-course : Course
+its-course = Closed (record { period = record { 0 = ofBits binary64 0x4032e30370eec1e0 }; anomaly = record { 0 = ofBits binary64 0x402222c151418bc2 } })
+
 figures :
     (readOf an-orbit ≡ read.Orbit (orbit an-orbit) (interval an-orbit))
-    × (begunOf (orbit an-orbit) ≡ begun.Start (record { state = orbit an-orbit .state; initial = its-initial }))
-    × (firstStepOf its-initial (interval an-orbit) .0 ≡ ofBits binary64 0x3eb4f2ec413cb52b)
-unfolding an-orbit its-initial firstOf has readOf dot begunOf firstStepOf rootWordOf rootOf add sub mul div eq ofBits toBits
+    × (begunOf (orbit an-orbit) ≡ begun.Start (record { state = orbit an-orbit .state; initial = its-initial; course = its-course }))
+    × (firstStepOf its-initial (record { 0 = interval an-orbit .0 }) .0 ≡ ofBits binary64 0x3eb4f2ec413cb52b)
+unfolding an-orbit its-initial its-course revolutionOf isClosed isUsable courseOf neg lt firstOf has readOf dot begunOf firstStepOf rootWordOf rootOf add sub mul div eq ofBits toBits
 figures = (refl, refl, refl)

@@ -6,7 +6,7 @@ use lib.ListN.{getD}
 use Rattle.bits.specs.Choice.{pick}
 use Rattle.bits.specs.Runs.{firstOf, has}
 use Rattle.bits.specs.declared.runs.Sought.the-variants.{NotFinite}
-use Rattle.series.specs.declared.figures.Seconds.{Seconds}
+use Rattle.states_revolutions.specs.declared.figures.WholeInterval.{WholeInterval}
 use Rattle.states_start.specs.declared.figures.Vector.{Vector}
 use Rattle.states_start.specs.declared.figures.Orbit.{Orbit}
 use Rattle.states_start.specs.declared.figures.Read.{Read}
@@ -22,7 +22,8 @@ vectorAt words k = record { x = doubleAt words k; y = doubleAt words (k + 1); z 
 abbrev pub orbit : List ℕ → Orbit
 orbit words = record { mu = doubleAt words 0; state = record { position = vectorAt words 1; velocity = vectorAt words 4 } }
 
-abbrev pub interval : List ℕ → Seconds
+-- τ, the whole interval.
+abbrev pub interval : List ℕ → WholeInterval
 interval words = record { 0 = doubleAt words 7 }
 
 -- Refusal 2: "any of the eight is NaN or infinite". Then there is no orbit, but the number of the first such word.

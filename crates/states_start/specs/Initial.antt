@@ -13,14 +13,21 @@ use Rattle.series.specs.declared.figures.Anomaly.{Anomaly}
 use Rattle.series.specs.declared.figures.Seconds.{Seconds}
 use Rattle.search_points.specs.declared.figures.Initial.{Initial}
 use Rattle.bits.specs.declared.runs.Sought.the-variants.{NotFinite}
+use Rattle.states_revolutions.specs.Revolutions.{courseOf}
 use Rattle.states_start.specs.declared.figures.Vector.{Vector}
+use Rattle.states_start.specs.declared.figures.State.{State}
 use Rattle.states_start.specs.declared.figures.Orbit.{Orbit}
+use Rattle.states_start.specs.declared.figures.Start.{Start}
 use Rattle.states_start.specs.declared.figures.Begun.{Begun}
 use Rattle.states_start.specs.declared.figures.Begun.the-variants as begun
 
 -- "(x·x+y·y)+z·z", "σ0 = x·vx+y·vy+z·vz" and "v² = vx·vx+vy·vy+vz·vz" are the same formula: sums "group from the left".
 unfoldable pub dot : Vector → Vector → Float
 dot a b = (a .x ⊗ b .x ⊕ a .y ⊗ b .y) ⊕ a .z ⊗ b .z
+
+-- T-04: the period is the state's, "worked out from" its initial figures after refusals 3 and 4.
+abbrev pub startFrom : State → Initial → Start
+startFrom s i = record { state = s; initial = i; course = courseOf i }
 
 -- "α = v² − (2·μ)/r0". Refusal 3: "(x·x+y·y)+z·z is zero". Refusal 4: "that sum, σ0, v², (2·μ)/r0, α or H below isn't finite"; H is the interval's,
 -- and refused where the interval is (Call of crate `states`).
@@ -30,7 +37,7 @@ begunFrom o sum r0 sigma0 v2 =
     let alpha = v2 ⊖ quotient in
     pick (eq sum n0) (begun.Refused 3)
     (pick (has NotFinite (wordsOf (sum ∷ sigma0 ∷ v2 ∷ quotient ∷ alpha ∷ []))) (begun.Refused 4)
-    (begun.Start (record { state = o .state; initial = record { mu = o .mu; r0 = r0; sigma0 = sigma0; alpha = alpha } })))
+    (begun.Start (startFrom (o .state) (record { mu = o .mu; r0 = r0; sigma0 = sigma0; alpha = alpha }))))
 
 -- "r0 = root of that sum"
 unfoldable pub begunOf : Orbit → Begun
@@ -48,6 +55,6 @@ its-inverse : twoToMinus20 ≡ n1 ⊘ ofInt binary64 (pos (2 ^ 20))
 unfolding ofBits ofInt div
 its-inverse = refl
 
--- "H = (|τ|/r0)·2^−20"
+-- "H = (|τ|/r0)·2^−20"; since T-04 τ is the interval that is searched: "H .. then speak of the reduced interval".
 unfoldable pub firstStepOf : Initial → Seconds → Anomaly
 firstStepOf i tau = record { 0 = (magnitude (tau .0) ⊘ i .r0) ⊗ twoToMinus20 }

@@ -1,6 +1,7 @@
 // What comes in, and what is known of it before the search. Lengths are in km, times in s.
 use search_points::Initial;
-use series::Seconds;
+use states_revolutions::Course;
+use states_revolutions::WholeInterval;
 
 // A position (km), a velocity (km/s) or an acceleration (km/s^2).
 pub struct Vector {
@@ -21,16 +22,17 @@ pub struct Orbit {
     pub state: State,
 }
 
-// What eight words hold: an orbit and an interval; or a word that is not finite, and then the number of the first such word, from 0.
+// What eight words hold: an orbit and the whole interval; or a word that is not finite, and then the number of the first such word, from 0.
 pub enum Read {
-    Orbit(Orbit, Seconds),
+    Orbit(Orbit, WholeInterval),
     NotFinite(u64),
 }
 
-// What every interval of one orbit begins with: its state, and its initial figures, mu among them.
+// What every interval of one orbit begins with: its state, its initial figures, mu among them, and its course, with the period if it has one.
 pub struct Start {
     pub state: State,
     pub initial: Initial,
+    pub course: Course,
 }
 
 // The start of an orbit, or the number of the refusal.

@@ -10,7 +10,7 @@ use super::figures::Read;
 use super::figures::State;
 use super::figures::Vector;
 use bits::Sought;
-use series::Seconds;
+use states_revolutions::WholeInterval;
 
 // The double of one of eight finite words.
 fn double_at(words: [u64; 8], k: usize) -> f64
@@ -32,7 +32,7 @@ fn vector_at(words: [u64; 8], k: usize) -> Vector
     }
 }
 
-// The orbit and the interval of eight words, if all are finite (refusal 2).
+// The orbit and the whole interval of eight words, if all are finite (refusal 2).
 pub fn orbit_of(words: [u64; 8]) -> Read
     ensures { λ r. ⌜ r ≡ readOf words ⌝ }
 {
@@ -44,5 +44,5 @@ pub fn orbit_of(words: [u64; 8]) -> Read
     let velocity = vector_at(words, 4);
     let state = State { position, velocity };
     let mu = double_at(words, 0);
-    Read::Orbit(Orbit { mu, state }, Seconds(double_at(words, 7)))
+    Read::Orbit(Orbit { mu, state }, WholeInterval(double_at(words, 7)))
 }

@@ -37,8 +37,8 @@ fn tested(sum: f64, sigma0: f64, v2: f64, quotient: f64, alpha: f64) -> [u64; 5]
     ]
 }
 
-// r0 (km), sigma0 (km^2/s) and alpha (km^2/s^2) of an orbit, beside its mu and its state; refusal 3, then 4. H, which is the interval's, stands apart: see
-// `first_step`.
+// r0 (km), sigma0 (km^2/s) and alpha (km^2/s^2) of an orbit, beside its mu and its state, and its course; refusal 3, then 4. H, which is the interval's,
+// stands apart: see `first_step`.
 pub fn start_of(orbit: Orbit) -> Begun
     ensures { λ r. ⌜ r ≡ begunOf orbit ⌝ }
 {
@@ -66,10 +66,15 @@ pub fn start_of(orbit: Orbit) -> Begun
         sigma0,
         alpha,
     };
-    Begun::Start(Start { state, initial })
+    let course = states_revolutions::course_of(initial);
+    Begun::Start(Start {
+        state,
+        initial,
+        course,
+    })
 }
 
-// H (s/km), an anomaly, from which the search goes outward.
+// H (s/km), an anomaly, from which the search goes outward. tau is the interval that is searched.
 pub fn first_step(initial: Initial, tau: Seconds) -> Anomaly
     ensures { λ r. ⌜ r ≡ firstStepOf initial tau ⌝ }
 {

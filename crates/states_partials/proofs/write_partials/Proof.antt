@@ -12,6 +12,7 @@ use Rattle.bits.specs.Runs.{has}
 use Rattle.bits.specs.declared.runs.Sought.the-variants.{Zero, NotFinite}
 use Rattle.bits.proofs.RunLaws.{copied-all}
 use Rattle.states_arcs.specs.declared.figures.Arc.{Arc}
+use Rattle.states_partials.specs.U.{uRefused}
 use Rattle.states_partials.specs.Matrix.{matrixDivisors}
 use Rattle.states_partials.specs.Entries.{entriesOf}
 use Rattle.states_partials.specs.Partials.{partialsRefusal, lentAfter}
@@ -31,14 +32,19 @@ module _ (arc : Arc) (run : List ℕ) where
     unfolding partialsRefusal lentAfter
     zero-divisor z = rw (eq-eqb _ _ h, ← ed, z) (refl, refl)
 
-    module _ (z : has Zero divisors ≡ false) (table : List ℕ) (et : table ≡ wordsOf (entriesOf arc)) where
-      not-finite : has NotFinite table ≡ true → Answers 8 run
+    module _ (z : has Zero divisors ≡ false) where
+      whole-refused : uRefused arc ≡ true → Answers 8 run
       unfolding partialsRefusal lentAfter
-      not-finite f = rw (eq-eqb _ _ h, ← ed, z, ← et, f) (refl, refl)
+      whole-refused w = rw (eq-eqb _ _ h, ← ed, z, w) (refl, refl)
 
-      written : has NotFinite table ≡ false → Answers 0 table
-      unfolding partialsRefusal lentAfter
-      written f = rw (eq-eqb _ _ h, ← ed, z, ← et, f) (refl, refl)
+      module _ (w : uRefused arc ≡ false) (table : List ℕ) (et : table ≡ wordsOf (entriesOf arc)) where
+        not-finite : has NotFinite table ≡ true → Answers 8 run
+        unfolding partialsRefusal lentAfter
+        not-finite f = rw (eq-eqb _ _ h, ← ed, z, w, ← et, f) (refl, refl)
+
+        written : has NotFinite table ≡ false → Answers 0 table
+        unfolding partialsRefusal lentAfter
+        written f = rw (eq-eqb _ _ h, ← ed, z, w, ← et, f) (refl, refl)
 
 returns : tie.Need-returns
 returns c = other-length _ _ (c .if1 .taken)
@@ -57,6 +63,15 @@ returns-2 c =
     let d = c .before .before .before in
     zero-divisor _ _ (d .before .if1 .left) _ (d .matrix-divisors .ensures) (sym (c .before .has .ensures) ∙ c .if2 .taken)
 
+u-refused-requires : tie.Need-u-refused-requires
+u-refused-requires c κs = search needs
+
+returns-3 : tie.Need-returns-3
+returns-3 c =
+    let z = c .before .before in
+    let d = z .before .before .before in
+    whole-refused _ _ (d .before .if1 .left) _ (d .matrix-divisors .ensures) (sym (z .before .has .ensures) ∙ z .if2 .left) (sym (c .before .u-refused .ensures) ∙ c .if3 .taken)
+
 entries-requires : tie.Need-entries-requires
 entries-requires c κs = search needs
 
@@ -66,12 +81,13 @@ slice-aggregate-has-2 c = search needs
 has-requires-2 : tie.Need-has-requires-2
 has-requires-2 c κs = search needs
 
-returns-3 : tie.Need-returns-3
-returns-3 c =
+returns-4 : tie.Need-returns-4
+returns-4 c =
     let t = c .before .before .before in
-    let d = t .before .before .before .before in
-    not-finite _ _ (d .before .if1 .left) _ (d .matrix-divisors .ensures) (sym (t .before .before .has .ensures) ∙ t .before .if2 .left)
-    _ (t .entries .ensures) (sym (c .before .has2 .ensures) ∙ c .if3 .taken)
+    let z = t .before .before .before in
+    let d = z .before .before .before in
+    not-finite _ _ (d .before .if1 .left) _ (d .matrix-divisors .ensures) (sym (z .before .has .ensures) ∙ z .if2 .left)
+    (sym (t .before .before .u-refused .ensures) ∙ t .before .if3 .left) _ (t .entries .ensures) (sym (c .before .has2 .ensures) ∙ c .if4 .taken)
 
 slice-aggregate-copy-words : tie.Need-slice-aggregate-copy-words
 slice-aggregate-copy-words c = search needs
@@ -82,15 +98,16 @@ copy-words-requires c κs = search needs
 same-length : tie.Need-same-length
 same-length c = search needs
 
-returns-4 : tie.Need-returns-4
-returns-4 c =
+returns-5 : tie.Need-returns-5
+returns-5 c =
     let w = c .before .before in
     let f = w .before .before .before in
     let t = f .before .before .before in
-    let d = t .before .before .before .before in
+    let z = t .before .before .before in
+    let d = z .before .before .before in
     let same = d .before .if1 .left in
-    let a = written _ _ same _ (d .matrix-divisors .ensures) (sym (t .before .before .has .ensures) ∙ t .before .if2 .left)
-    _ (t .entries .ensures) (sym (f .before .has2 .ensures) ∙ f .if3 .left) in
+    let a = written _ _ same _ (d .matrix-divisors .ensures) (sym (z .before .has .ensures) ∙ z .if2 .left)
+    (sym (t .before .before .u-refused .ensures) ∙ t .before .if3 .left) _ (t .entries .ensures) (sym (f .before .has2 .ensures) ∙ f .if4 .left) in
     (a .0, w .copy-words .ensures ∙ copied-all _ _ (omega (arith, same)) ∙ a .1)
 
 pub write-partials-spec : {M : Type 1} → statement M
@@ -102,11 +119,13 @@ write-partials-spec =
     slice-aggregate-has
     has-requires
     returns-2
+    u-refused-requires
+    returns-3
     entries-requires
     slice-aggregate-has-2
     has-requires-2
-    returns-3
+    returns-4
     slice-aggregate-copy-words
     copy-words-requires
     same-length
-    returns-4)
+    returns-5)

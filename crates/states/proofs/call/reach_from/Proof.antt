@@ -1,38 +1,19 @@
--- Where H is finite, what the search found leads on.
+-- The interval is what its function ensures, and where it leads what `reach_over` does.
+use mathlib.Core.Path.{_∙_, ap}
 use borrow.Author.Needs.{needs}
-use Rattle.states.specs.Call.{reachedFrom, reachedFromBy}
+use Rattle.states.specs.Call.{reachedOver, reachedFromBy}
 use Rattle.states.proofs.call.reach_from.Statement.{statement}
 use Rattle.states.proofs.call.reach_from.Tie as tie
 
-first-step-requires : tie.Need-first-step-requires
-first-step-requires c κs = search needs
+interval-of-requires : tie.Need-interval-of-requires
+interval-of-requires c κs = search needs
 
-is-finite-requires : tie.Need-is-finite-requires
-is-finite-requires c κs = search needs
+reach-over-requires : tie.Need-reach-over-requires
+reach-over-requires c κs = search needs
 
 returns : tie.Need-returns
 unfolding reachedFromBy
-returns c = simp (← (c .before .before .first-step .ensures), ← (c .before .is-finite .ensures), c .if1 .taken)
-
-search-requires : tie.Need-search-requires
-search-requires c κs = search needs
-
-reached-found-requires : tie.Need-reached-found-requires
-reached-found-requires c κs = search needs
-
-returns-2 : tie.Need-returns-2
-unfolding reachedFromBy
-returns-2 c =
-    let h = c .before .before .before in
-    simp (← (h .before .first-step .ensures), ← (h .is-finite .ensures), c .before .before .if1 .left, ← (c .before .search .ensures)) (c .reached-found .ensures)
+returns c = c .reach-over .ensures ∙ ap (reachedOver _) (c .before .interval-of .ensures)
 
 pub reach-from-spec : {M : Type 1} → statement M
-reach-from-spec =
-    tie.close
-    (tie.spec
-    first-step-requires
-    is-finite-requires
-    returns
-    search-requires
-    reached-found-requires
-    returns-2)
+reach-from-spec = tie.close (tie.spec interval-of-requires reach-over-requires returns)

@@ -22,13 +22,13 @@ returns : tie.Need-returns
 unfolding reachedOrbitBy
 returns c =
     let s = c .before .before .before .before in
-    c .reach-from .ensures ∙ ap (λ (b : Begun). reachedBegun b (s .before .args .tau)) (sym (c .before .before .start .given .1) ∙ s .start-of .ensures)
+    c .reach-from .ensures ∙ ap (λ (b : Begun). reachedBegun b (s .before .args .whole)) (sym (c .before .before .start .given .1) ∙ s .start-of .ensures)
 
 returns-2 : tie.Need-returns-2
 unfolding reachedOrbitBy
 returns-2 c =
     let s = c .before .before .before in
-    ap (λ (b : Begun). reachedBegun b (s .before .args .tau)) (sym (c .before .refusal .given .1) ∙ s .start-of .ensures)
+    ap (λ (b : Begun). reachedBegun b (s .before .args .whole)) (sym (c .before .refusal .given .1) ∙ s .start-of .ensures)
 
 pub reach-orbit-spec : {M : Type 1} → statement M
 reach-orbit-spec =

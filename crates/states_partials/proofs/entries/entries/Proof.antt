@@ -9,7 +9,8 @@ use lib.ListN.{length, take, set, length-set}
 use lib.Seq.{take-suc-set, take-all}
 use lib.Ieee.{Float, binary64, toBits}
 use Rattle.bits.specs.Words.{wordsOf}
-use Rattle.states_partials.specs.Matrix.{uOf, matrixOf}
+use Rattle.states_partials.specs.U.{uOf}
+use Rattle.states_partials.specs.Matrix.{matrixOf}
 use Rattle.states_partials.specs.Entries.{entryOf, upTo, rowByRow, entriesOf}
 use Rattle.states_arcs.specs.declared.figures.Arc.{Arc}
 use Rattle.states_partials.specs.declared.matrix.Matrix.{Matrix}

@@ -11,7 +11,10 @@ use Rattle.bits.specs.Words.{wordsOf}
 use Rattle.bits.specs.Runs.{has}
 use Rattle.bits.specs.Root.{rootOf}
 use Rattle.bits.specs.declared.runs.Sought.the-variants.{NotFinite}
-use Rattle.states_start.specs.Initial.{dot, begunFrom, begunOf}
+use Rattle.search_points.specs.declared.figures.Initial.{Initial}
+use Rattle.states_revolutions.specs.Revolutions.{courseOf}
+use Rattle.states_revolutions.specs.declared.figures.Course.{Course}
+use Rattle.states_start.specs.Initial.{dot, startFrom, begunFrom, begunOf}
 use Rattle.states_start.specs.declared.figures.Orbit.{Orbit}
 use Rattle.states_start.specs.declared.figures.Begun.the-variants.{Start, Refused}
 use Rattle.states_start.proofs.initial.start_of.Statement.{statement}
@@ -30,9 +33,15 @@ module _ (o : Orbit) (sum r0 sigma0 v2 : Float) (words : List ℕ)
   unfolding begunOf
   from-calls = λ i. begunFrom o (es i) ((er ∙ ap rootOf es) i) (eg i) (ev i)
 
-  decided : (b : Bool) → b ≡ has NotFinite words
-      → pick b (Refused 4) (Start (record { state = o .state; initial = record { mu = o .mu; r0 = r0; sigma0 = sigma0; alpha = v2 ⊖ (n2 ⊗ o .mu) ⊘ r0 } })) ≡ begunOf o
+  initial : Initial
+  initial = record { mu = o .mu; r0 = r0; sigma0 = sigma0; alpha = v2 ⊖ (n2 ⊗ o .mu) ⊘ r0 }
+
+  decided : (b : Bool) → b ≡ has NotFinite words → pick b (Refused 4) (Start (startFrom (o .state) initial)) ≡ begunOf o
+  unfolding initial
   decided b h = sym (rw (z, ← ew, ← h)) ∙ from-calls
+
+  begun : has NotFinite words ≡ false → (k : Course) → k ≡ courseOf initial → Start (record { state = o .state; initial = initial; course = k }) ≡ begunOf o
+  begun h k ek = ap (λ (x : Course). Start (record { state = o .state; initial = initial; course = x })) ek ∙ decided false (sym h)
 
 product-requires : tie.Need-product-requires
 product-requires c κs = search needs
@@ -65,12 +74,17 @@ returns-2 c =
     decided _ _ _ _ _ _ (r .before .before .product .ensures) (r .root-of-figure .ensures .1) (v .before .product2 .ensures) (v .product3 .ensures)
     (r .before .if1 .left) (c .before .before .before .tested .ensures) true (sym (c .if2 .taken) ∙ c .before .has .ensures)
 
+course-of-requires : tie.Need-course-of-requires
+course-of-requires c κs = search needs
+
 returns-3 : tie.Need-returns-3
+unfolding initial
 returns-3 c =
-    let v = c .before .before .before .before in
+    let t = c .before in
+    let v = t .before .before .before .before in
     let r = v .before .before in
-    decided _ _ _ _ _ _ (r .before .before .product .ensures) (r .root-of-figure .ensures .1) (v .before .product2 .ensures) (v .product3 .ensures)
-    (r .before .if1 .left) (c .before .before .before .tested .ensures) false (sym (c .if2 .left) ∙ c .before .has .ensures)
+    begun _ _ _ _ _ _ (r .before .before .product .ensures) (r .root-of-figure .ensures .1) (v .before .product2 .ensures) (v .product3 .ensures)
+    (r .before .if1 .left) (t .before .before .before .tested .ensures) (sym (t .before .has .ensures) ∙ t .if2 .left) _ (c .course-of .ensures)
 
 pub start-of-spec : {M : Type 1} → statement M
 start-of-spec =
@@ -85,4 +99,5 @@ start-of-spec =
     slice-aggregate-has
     has-requires
     returns-2
+    course-of-requires
     returns-3)

@@ -1,0 +1,2 @@
+-- Some floors, evaluated from the definition.
+use mathlib.Core.Path.{_≡_, refl}
