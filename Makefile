@@ -5,6 +5,7 @@
 # make wrong    the second wrong programs of each promise, which the prover has to refuse, beside those of the gate
 # make fuzz     the library against the second program, by families and guided, as long as told: make fuzz N=1000000 SEED=7
 # make bench    instructions per call (and time on x86-64) beside plain C of the same rules: see bench/README.md
+# make accuracy how far positions are from the exact ones, before T-04 and after: see docs/ACCURACY.md
 # make command  build/kelubashi, the station's command, in C over the library
 # make program  build/propagate, the program, for x86-64, proved
 # make lib      build/libkelubashi.a, for x86-64, from proved crates only
@@ -30,7 +31,7 @@ FIRST = 0
 INPUT =
 
 # The table's rows.
-BENCH = root propagate partials results summary append withdraw
+BENCH = root propagate partials years results summary append withdraw
 BESIDE = bench/plain.c bench/plain_root.c bench/plain_search.c bench/plain_results.c bench/plain_summary.c bench/newton.c bench/orbits.c bench/roster.c bench/empty.c bench/row.c
 
 # rt proves so many crates, or tries so many wrong programs, at a time; with fewer processors than that, none waits for the longest of a pair.
@@ -38,7 +39,7 @@ export RT_JOBS = 4
 
 # One step at a time, in the order written: what is cheap to find wrong comes before what takes minutes.
 .NOTPARALLEL:
-.PHONY: run state check test wrong fuzz bench program command lib install install-files uninstall clean
+.PHONY: run state check test wrong fuzz bench accuracy program command lib install install-files uninstall clean
 .PHONY: kit layout map promises proved prefix machine header edition readme refusals selfcheck facts installed tried commanded sanitized
 
 # What make run shows.
@@ -72,6 +73,9 @@ fuzz: machine $(FUZZ)
 
 bench: machine $(BENCH:%=build/bench/%)
 	@sh bench/run.sh $(BENCH)
+
+accuracy: machine build/bench/accuracy
+	@sh bench/accuracy.sh
 
 # What the library and the program rest on, at once: rt then proves side by side what does not depend on one another.
 proved: kit
@@ -224,6 +228,10 @@ build/%: %.c $(HEADERS) machine lib
 	@$(X86) compile $(STRICT) -Iinclude -o $@ $< $(filter %.o,$^) build/libkelubashi.a -lm
 
 build/bench/%: bench/row_%.c $(BESIDE) $(wildcard bench/*.h) include/kelubashi.h machine lib
+	@mkdir -p $(@D)
+	@$(X86) compile $(STRICT) -Iinclude -o $@ $< $(BESIDE) build/libkelubashi.a -lm
+
+build/bench/accuracy: bench/accuracy.c $(BESIDE) $(wildcard bench/*.h) include/kelubashi.h machine lib
 	@mkdir -p $(@D)
 	@$(X86) compile $(STRICT) -Iinclude -o $@ $< $(BESIDE) build/libkelubashi.a -lm
 

@@ -1,6 +1,6 @@
 /*
 **  The old way: Newton's steps on the anomaly from a first guess. Nothing bounds where they go, and
-**  where they have not settled after 50 the last one is the answer.
+**  where they have not settled after 50 the last one is the answer. No revolutions come off.
 */
 #include "plain.h"
 #include "orbit.h"
@@ -18,6 +18,7 @@ static struct orbit begin(const double *eight)
     o.sigma0 = dot(eight + 1, eight + 4);
     o.alpha = dot(eight + 4, eight + 4) - 2 * o.mu / o.r0;
     o.h = o.tau / o.r0;
+    o.turned = 0;
     return o;
 }
 

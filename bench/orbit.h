@@ -6,9 +6,9 @@
 
 #include "series.h"
 
-/* The initial figures, with the interval and its first step. */
+/* The initial figures, with the interval that is searched, its first step, and the anomaly of the revolutions that came off: 0 where none did. */
 struct orbit {
-    double mu, r0, sigma0, alpha, tau, h;
+    double mu, r0, sigma0, alpha, tau, h, turned;
 };
 
 struct sums {

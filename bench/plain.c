@@ -1,11 +1,15 @@
 /*
-**  The call in plain C: initial figures, refusals, results and partials.
+**  The call in plain C: initial figures, whole revolutions, refusals, results and partials.
 **
 **  Refusal 8 has two halves, zero divisors and figures that are not finite. Each zero divisor leaves an
-**  infinity or a NaN in a figure of the answer or of the partials, so the second half is tested alone.
+**  infinity or a NaN in a figure of the answer or of the partials, so the second half is tested alone. The
+**  same holds of the whole anomaly, its s3, s4 and s5, and U: what is not finite there leaves U so, then A11.
 */
 #include "plain.h"
 #include "plain_parts.h"
+
+#define TURN 0x1.921fb54442d18p+2         /* twice the double nearest to pi */
+#define MOST_TURNS 1099511627776.0        /* 2^40 */
 
 /* A figure that is finite less itself is 0, and any other is a NaN: one test for all of them. */
 static inline int all_finite(const double *figures, int count)
@@ -18,28 +22,81 @@ static inline int all_finite(const double *figures, int count)
     return none == 0;
 }
 
-/* r0, sigma0, alpha and H of eight finite doubles: mu, position, velocity, tau. Refusal 3 or 4, or 0. */
-static uint64_t begin(const double *eight, struct orbit *o)
+static inline double root_of(double figure)
+{
+    uint64_t root;
+
+    plain_root(word_of(figure), &root, 1);
+    return figure_of(root);
+}
+
+/* The floor of a number where that is within the bound of turns, and otherwise 0, of a NaN too. */
+static inline double turns_in(double number)
+{
+    int64_t whole;
+
+    if (!(-MOST_TURNS <= number && number < MOST_TURNS + 1))
+        return 0;
+    whole = (int64_t)number;     /* toward zero */
+    return (double)(whole - ((double)whole > number));
+}
+
+/*
+**  Takes whole revolutions off the interval, for alpha below zero and mu above it. The period needs no test: an infinite
+**  one leaves 1/2, whose floor is 0, and one that is zero or a NaN leaves no number within the bound.
+*/
+static inline void take_turns_off(struct orbit *o)
+{
+    double root = root_of(-o->alpha), period = TURN * o->mu / (-o->alpha * root);
+    double turns = turns_in(o->tau / period + 0.5);
+
+    if (turns != 0) {
+        o->tau -= turns * period;
+        o->turned = turns * (TURN / root);
+    }
+}
+
+/*
+**  r0, sigma0, alpha and H of eight finite doubles: mu, position, velocity, tau. Refusal 3 or 4, or 0. Where
+**  turns is 0, none come off.
+*/
+static inline uint64_t begin(const double *eight, int turns, struct orbit *o)
 {
     double sum = dot(eight + 1, eight + 1), v2, quotient;
-    uint64_t root;
 
     if (sum == 0)
         return 3;
     if (!isfinite(sum))
         return 4;
-    plain_root(word_of(sum), &root, 1);
     o->mu = eight[0];
     o->tau = eight[7];
-    o->r0 = figure_of(root);
+    o->turned = 0;
+    o->r0 = root_of(sum);
     o->sigma0 = dot(eight + 1, eight + 4);
     v2 = dot(eight + 4, eight + 4);
     quotient = 2 * o->mu / o->r0;
     o->alpha = v2 - quotient;
+    if (turns && o->alpha < 0 && o->mu > 0)
+        take_turns_off(o);
     o->h = fabs(o->tau) / o->r0 * (1.0 / 1048576);
 
     /* a v2 or a quotient that is not finite leaves no finite alpha */
     return isfinite(o->sigma0) && isfinite(o->alpha) && isfinite(o->h) ? 0 : 4;
+}
+
+/* U of an anomaly and the whole interval. Where revolutions came off, the anomaly is made whole too; s1 and s2 are the same. */
+static inline double u_of(const struct orbit *o, const struct sums *s, double psi, double tau)
+{
+    double square, s3, s4, s5;
+
+    if (o->turned == 0)
+        return s->s2 * tau + o->mu * (s->c.c4 - 3 * s->c.c5) * (psi * psi * psi * psi * psi);
+    psi += o->turned;
+    square = psi * psi;
+    s3 = (s->s1 - psi) / o->alpha;
+    s4 = (s->s2 - square / 2) / o->alpha;
+    s5 = (s3 - square * psi / 6) / o->alpha;
+    return s->s2 * tau + o->mu * (psi * s4 - 3 * s5);
 }
 
 /* The sum of four terms that all partials have, from its A times p or w. */
@@ -53,8 +110,7 @@ static void partials_of(const struct orbit *o, const double *eight, const struct
                         const double *figures, double *run)
 {
     double mu = o->mu, r0 = o->r0, r = a->r, f = a->f, g = a->g, fd = a->fd, gd = a->gd, s1 = s->s1, s2 = s->s2;
-    double psi = figures[12], fifth = psi * psi * psi * psi * psi;
-    double u5 = s2 * o->tau + mu * (s->c.c4 - 3 * s->c.c5) * fifth;
+    double u5 = u_of(o, s, figures[12], eight[7]);
     double a11 = (s->c.c0 / (r * r0) + 1 / (r0 * r0) + 1 / (r * r)) * fd - mu * mu * u5 / (a->r_cube * a->r0_cube);
     double a12 = (fd * s1 + (gd - 1) / r) / r;
     double a13 = (gd - 1) * s1 / r - mu * u5 / a->r_cube;
@@ -87,8 +143,8 @@ static uint64_t refused(uint64_t number, uint64_t points, uint64_t *answer)
     return number;
 }
 
-/* The call from refusal 2 on; no partials are asked for where the run is null. */
-static inline uint64_t call(const uint64_t *words, uint64_t *answer, uint64_t *run)
+/* The call from refusal 2 on; no partials are asked for where the run is null, and no turns come off where turns is 0. */
+static inline uint64_t call(const uint64_t *words, int turns, uint64_t *answer, uint64_t *run)
 {
     double eight[8], figures[13], partials[36];
     struct orbit o;
@@ -101,7 +157,7 @@ static inline uint64_t call(const uint64_t *words, uint64_t *answer, uint64_t *r
     memcpy(eight, words, sizeof eight);
     if (!all_finite(eight, 8))
         return refused(2, 0, answer);
-    number = begin(eight, &o);
+    number = begin(eight, turns, &o);
     if (number != 0)
         return refused(number, 0, answer);
     found = plain_search(&o);
@@ -135,7 +191,7 @@ uint64_t plain_propagate(uint64_t mu, uint64_t x, uint64_t y, uint64_t z,
 
     if (n != 15)
         return 60;
-    return call(words, answer, NULL);
+    return call(words, 1, answer, NULL);
 }
 
 uint64_t plain_partials(uint64_t mu, uint64_t x, uint64_t y, uint64_t z,
@@ -148,5 +204,16 @@ uint64_t plain_partials(uint64_t mu, uint64_t x, uint64_t y, uint64_t z,
         return 60;
     if (k != 36)
         return refused(1, 0, answer);
-    return call(words, answer, run);
+    return call(words, 1, answer, run);
+}
+
+uint64_t whole_propagate(uint64_t mu, uint64_t x, uint64_t y, uint64_t z,
+                         uint64_t vx, uint64_t vy, uint64_t vz, uint64_t tau,
+                         uint64_t *answer, size_t n)
+{
+    uint64_t words[8] = { mu, x, y, z, vx, vy, vz, tau };
+
+    if (n != 15)
+        return 60;
+    return call(words, 0, answer, NULL);
 }

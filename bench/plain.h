@@ -30,6 +30,11 @@ uint64_t plain_append(const uint64_t *record, size_t r, uint64_t *states, size_t
 uint64_t plain_withdraw(uint64_t which, uint64_t *states, size_t words, uint64_t count, uint64_t centres, uint64_t *list,
                         size_t k, uint64_t *answer, size_t n);
 
+/* The propagation before T-04: no revolutions come off, and the whole interval is searched. */
+uint64_t whole_propagate(uint64_t mu, uint64_t x, uint64_t y, uint64_t z,
+                         uint64_t vx, uint64_t vy, uint64_t vz, uint64_t tau,
+                         uint64_t *answer, size_t n);
+
 /* The same list, all entries in one walk over the states. */
 uint64_t one_walk_summary(const uint64_t *states, size_t words, uint64_t count, uint64_t centres, uint64_t *list, size_t k,
                           uint64_t *answer, size_t n);

@@ -1,5 +1,5 @@
 #!/bin/sh
-# Prints the table of the rows given (root, propagate, partials, results, summary, append, withdraw), whose programs are in build/bench/, how two of them grow,
+# Prints the table of the rows given (root, propagate, partials, years, results, summary, append, withdraw), whose programs are in build/bench/, how two of them grow,
 # and the root by classes of numbers.
 #
 # Instructions are counted under the emulator on every machine, so that all count alike. Time is measured
@@ -89,10 +89,10 @@ nanoseconds_of() {
     run "$build/bench/$1" "$2"
 }
 
-# MEASURE ROW COLUMN: per call, without what the pass itself takes.
+# MEASURE ROW COLUMN [EMPTY]: per call, without what the pass itself takes, by the row's empty calls or those of another column.
 per_call() {
     whole=$("$1" "$2" "$3")
-    bare=$("$1" "$2" empty)
+    bare=$("$1" "$2" "${4:-empty}")
     calls=1
     if [ "$1" = instructions_of ]; then
         calls=$(run "$build/bench/$2" calls)
@@ -105,6 +105,11 @@ beside() {
     case $2 in
     root) echo "four steps a turn: $(per_call "$1" root fours); by the processor: $(per_call "$1" root processor)" ;;
     propagate) echo "by Newton, no promise: $(per_call "$1" propagate newton)" ;;
+    years)
+        echo "the whole interval searched: $(per_call "$1" years whole); with partials:" \
+            "$(per_call "$1" years 'library partials' 'empty partials') library," \
+            "$(per_call "$1" years 'plain partials' 'empty partials') plain C"
+        ;;
     summary) echo "all entries in one walk: $(per_call "$1" summary one_walk)" ;;
     esac
 }
