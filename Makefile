@@ -193,9 +193,9 @@ sanitized: build/tests/second_results
 commanded: machine command build/tests/kelubashi_faulty build/tests/second_results
 	@sh tests/command.sh 'over the library' 'sh tests/machine.sh run build/kelubashi' 'sh tests/machine.sh run build/tests/kelubashi_faulty'
 
-SECOND = $(patsubst %,build/tests/second/%.o,root series search states files summary)
+SECOND = $(patsubst %,build/tests/second/%.o,root series revolutions search states files summary)
 TRACED = $(SECOND:build/tests/second/%=build/tests/traced/%)
-SELFTEST = $(patsubst %,build/tests/second/selftest%.o,_root _calls _search _orbits _files _summary _changes _refused)
+SELFTEST = $(patsubst %,build/tests/second/selftest%.o,_root _calls _search _revolutions _turns _orbits _files _summary _changes _refused)
 HEADERS = $(wildcard include/*.h command/*.h command/parts/*.h tests/*.h tests/second/*.h)
 
 # The command: plain C99 and POSIX, with no warning of conversions either.
@@ -215,7 +215,7 @@ build/tests/kelubashi_faulty: $(COMMAND) build/tests/command_faults.o machine li
 build/host/example: build/host/kelubashi_selfcheck.o
 build/tests/case_files: build/tests/expected.o
 build/tests/facts: STRICT += -pthread
-ASK_STATES = $(patsubst %,build/tests/%.o,drive orbits aimed aimed_search inputs ask_state)
+ASK_STATES = $(patsubst %,build/tests/%.o,drive orbits aimed aimed_search aimed_revolutions inputs ask_state)
 ASK_FILES = $(patsubst %,build/tests/%.o,drive orbits sections damaged lent ask_file)
 build/tests/propagate: $(ASK_STATES) build/tests/aims.o $(SECOND)
 ASK_ROSTERS = $(patsubst %,build/tests/%.o,drive orbits records rosters roster_calls held entries rules_summary aims_summary ask_summary)

@@ -34,5 +34,18 @@ void to_centre(uint64_t *words);
 void no_figures(uint64_t *words);
 void start_alone(uint64_t *words);
 void partials_alone(uint64_t *words);
+void turns(uint64_t *words);
+void most_turns(uint64_t *words);
+void halfway(uint64_t *words);
+void falls(uint64_t *words);
+void whole_turns(uint64_t *words);
+void years(uint64_t *words);
+void needle(uint64_t *words);
+void no_period(uint64_t *words);
+void wide_turns(uint64_t *words);
+void close_turns(uint64_t *words);
+
+/* Some periods on or back, where the state has one. */
+void more_turns(uint64_t *words);
 
 #endif

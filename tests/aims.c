@@ -5,6 +5,7 @@
 #include "second/parts.h"
 
 #include <inttypes.h>
+#include <stddef.h>
 #include <stdio.h>
 
 #define STEP (UINT64_C(1) << 52)
@@ -19,6 +20,12 @@ enum aim {
     SHORT_INFINITE, PAST_INFINITE,
     ZERO_BY_TIE, MINUS_ZERO_BY_TIE, ZERO_NEARER, MINUS_ZERO_NEARER, PAST_ZERO, PAST_MINUS_ZERO,
     NOT_ABOVE, INFINITE_RADIUS, START_ACCELERATION, PARTIALS_ONLY,
+    PERIOD_ZERO, PERIOD_INFINITE, PERIOD_NAN, QUOTIENT_INFINITE, SUBNORMAL_MU, SUBNORMAL_DIVISOR,
+    NO_TURN, ONE_TURN, ONE_TURN_BACK, MOST_TURNS, MOST_TURNS_BACK, TOO_MANY, TOO_MANY_BACK,
+    HALFWAY, HALFWAY_BACK, ROUNDED_UP,
+    NOTHING_LEFT, NOTHING_LEFT_BACK, TURNED_BACK, TURNED_FORTH,
+    MANY_TURNS, MANY_PARTIALS, FIRST_PAST, TURNED_INFINITE,
+    TURNED_SEVEN, TURNED_EIGHT, TURNED_PARTIALS, S3, S4, S5, U,
     AIMS
 };
 
@@ -33,6 +40,14 @@ static const char *const names[AIMS] = {
     "past end beside an infinite R", "short end beside an infinite R",
     "+0 by a tie", "-0 by a tie", "+0 nearer", "-0 nearer", "place 1 past +0", "place 1 past -0",
     "7 by r at zero or below", "an infinite r answered", "8 with no start acceleration", "8 by the partials only",
+    "P zero", "P infinite", "P NaN", "tau/P infinite", "turns off by a subnormal mu", "turns off by a subnormal divisor",
+    "n 0", "n 1", "n -1", "n 2^40", "n -2^40", "n 2^40+1", "n -2^40-1",
+    "tau/P halfway above zero", "tau/P halfway below zero", "tau/P+1/2 rounded up to a whole number",
+    "nothing left of a tau above zero", "nothing left of a tau below zero",
+    "less than nothing left of a tau above zero", "more than nothing left of a tau below zero",
+    "a hundred turns answered", "partials after ten thousand turns", "turns off and the first point past",
+    "turns off and an infinite R past", "7 with turns off", "8 with turns off", "8 by the partials only with turns off",
+    "8 by s3", "8 by s4 and not s3", "8 by s5 alone", "8 by U alone",
 };
 
 static uint64_t seen[AIMS];
@@ -56,7 +71,7 @@ static void see_sum(uint64_t sum)
     seen[FEW_DIGITS] += digits <= 8;
 }
 
-/* Which figure alone brings refusal 4, in terms of the rules' own formulas. */
+/* Which figure alone brings refusal 4, in terms of the rules' own formulas. H is that of the whole tau: nothing comes off where one of the others is not finite, or where H is not. */
 static void see_four(const double *e)
 {
     double sum = sum_of(e), r0 = 0;
@@ -90,7 +105,7 @@ static int see_outward(const struct start *s)
     int sort = -1;
 
     for (k = 0; k <= 40 && sort < 0; k++, place += STEP) {
-        double psi = sec_negative(s->tau) ? sec_flip(sec_double(place)) : sec_double(place), error;
+        double psi = sec_negative(s->searched) ? sec_flip(sec_double(place)) : sec_double(place), error;
 
         if (place == 0)
             continue;
@@ -104,9 +119,12 @@ static int see_outward(const struct start *s)
             seen[R_NAN]++;
             return 2;
         }
-        sort = sec_zero(error) ? 0 : sec_negative(error) != sec_negative(s->tau) ? -1 : 1;
-        if (!sec_finite(error))
+        sort = sec_zero(error) ? 0 : sec_negative(error) != sec_negative(s->searched) ? -1 : 1;
+        seen[FIRST_PAST] += sec_unwound(s) && k == 0 && sort == 1;
+        if (!sec_finite(error)) {
             seen[sort < 0 ? R_SHORT : R_PAST]++;
+            seen[TURNED_INFINITE] += sec_unwound(s) && sort == 1;
+        }
     }
     return sort;
 }
@@ -141,7 +159,7 @@ static void see_past(double psi, double before)
 static void see_pair(const struct start *s, double psi, double error, uint64_t propagated)
 {
     uint64_t word = sec_word(psi);
-    int past = sec_negative(error) == sec_negative(s->tau);
+    int past = sec_negative(error) == sec_negative(s->searched);
     double other = sec_figures(s, sec_double(past ? word - 1 : word + 1)).error;
 
     if (past)
@@ -174,6 +192,104 @@ static void see_found(const struct start *s, int sort, uint64_t propagated)
         seen[START_ACCELERATION] += !sec_finite(s->mu * s->position[0] / cube);
 }
 
+/* ---- whole revolutions ---- */
+
+/* The count of periods by its edges, whether or not they come off. */
+static void see_count(double n)
+{
+    static const struct {
+        double n;
+        enum aim aim;
+    } edges[] = {
+        { 0, NO_TURN }, { 1, ONE_TURN }, { -1, ONE_TURN_BACK }, { 0x1p40, MOST_TURNS }, { -0x1p40, MOST_TURNS_BACK },
+        { 0x1p40 + 1, TOO_MANY }, { -0x1p40 - 1, TOO_MANY_BACK },
+    };
+    size_t i;
+
+    for (i = 0; i < sizeof edges / sizeof edges[0]; i++)
+        seen[edges[i].aim] += n == edges[i].n;
+}
+
+/* The sum tau/P + 1/2 is a whole number: since tau/P is halfway between two, or by rounding. */
+static void see_whole_sum(const struct start *s, double quotient, double n)
+{
+    if (!sec_unwound(s) || quotient + 0.5 != n)
+        return;
+    if (quotient != n - 0.5)
+        seen[ROUNDED_UP]++;
+    else
+        seen[sec_negative(s->whole) ? HALFWAY_BACK : HALFWAY]++;
+}
+
+/* The period of an ellipse, and how many of it tau is. */
+static void see_period(const struct start *s)
+{
+    double period = sec_period(s->mu, s->alpha), quotient = s->whole / period, n = sec_floor(quotient + 0.5);
+
+    if (sec_nan(period))
+        seen[PERIOD_NAN]++;
+    else if (!sec_finite(period))
+        seen[PERIOD_INFINITE]++;
+    else if (sec_zero(period))
+        seen[PERIOD_ZERO]++;
+    else if (!sec_finite(quotient))
+        seen[QUOTIENT_INFINITE]++;
+    else {
+        see_count(n);
+        see_whole_sum(s, quotient, n);
+    }
+}
+
+/* What turns leave of the interval: zero, or a sign other than tau's. */
+static void see_left(const struct start *s)
+{
+    int back = sec_negative(s->whole);
+
+    if (sec_zero(s->searched))
+        seen[back ? NOTHING_LEFT_BACK : NOTHING_LEFT]++;
+    else if (sec_negative(s->searched) != back)
+        seen[back ? TURNED_FORTH : TURNED_BACK]++;
+}
+
+/* The first figure of the whole anomaly that is not finite, where the plain call answers. That anomaly itself always is: for an alpha near enough to zero P is infinite. */
+static void see_whole(const struct start *s)
+{
+    double psi = sec_search(s).psi;
+    struct figures at = sec_figures(s, psi);
+    struct whole w = sec_wound(s, &at, psi);
+
+    if (!sec_finite(w.s3))
+        seen[S3]++;
+    else if (!sec_finite(w.s4))
+        seen[S4]++;
+    else if (!sec_finite(w.s5))
+        seen[S5]++;
+    else
+        seen[U] += !sec_finite(w.u);
+}
+
+/*
+**  Neither 5 nor 6 comes after turns. Over any part of the way the mean of r is not far below r0, so a point is soon past;
+**  and up to there L is finite, and nothing in R overflows but the term in mu, to the past side.
+*/
+static void see_turned(const struct start *s, uint64_t propagated, uint64_t with_partials)
+{
+    double n = sec_size(s->revolutions), root;
+
+    sec_root(sec_flip(s->alpha), &root);
+    seen[SUBNORMAL_MU] += sec_word(s->mu) < STEP;
+    seen[SUBNORMAL_DIVISOR] += sec_word(sec_flip(s->alpha) * root) < STEP;
+    see_left(s);
+    seen[MANY_TURNS] += n >= 100 && propagated == 0;
+    seen[MANY_PARTIALS] += n >= 10000 && with_partials == 0;
+    seen[TURNED_SEVEN] += propagated == 7;
+    seen[TURNED_EIGHT] += propagated == 8;
+    if (propagated == 0 && with_partials == 8) {
+        seen[TURNED_PARTIALS]++;
+        see_whole(s);
+    }
+}
+
 void aims_see(const uint64_t *words, uint64_t propagated, uint64_t with_partials)
 {
     double e[EIGHT];
@@ -184,7 +300,13 @@ void aims_see(const uint64_t *words, uint64_t propagated, uint64_t with_partials
         e[i] = figure_at(words, i);
     if (propagated == 4)
         see_four(e);
-    if (sec_start(e, &s) != 0 || sec_zero(s.tau))
+    if (sec_start(e, &s) != 0)
+        return;
+    if (s.alpha < 0)
+        see_period(&s);
+    if (sec_unwound(&s))
+        see_turned(&s, propagated, with_partials);
+    if (sec_zero(s.searched))
         return;
     see_sum(sec_word(sum_of(e)));
     seen[SUBNORMAL_H] += sec_word(s.h) != 0 && sec_word(s.h) < STEP;

@@ -1,6 +1,7 @@
 /* Changes of a word, and of a state. */
 #include "changes.h"
 
+#include "aimed.h"
 #include "drive.h"
 #include "orbits.h"
 
@@ -108,6 +109,9 @@ static void change_state(struct file *f, const struct file *other)
         break;
     case 5:
         few_digits(words);
+        break;
+    case 6:
+        more_turns(words);
         break;
     default:
         words[place] = changed(words[place]);

@@ -40,6 +40,16 @@ static const struct state_family rows[] = {
     { { "no figures", 2 }, 1, no_figures },
     { { "start alone", 2 }, 1, start_alone },
     { { "partials alone", 3 }, 1, partials_alone },
+    { { "turns", 4 }, 1, turns },
+    { { "2^40 turns", 3 }, 1, most_turns },
+    { { "halfway", 2 }, 1, halfway },
+    { { "falls", 2 }, 1, falls },
+    { { "whole turns", 2 }, 1, whole_turns },
+    { { "years", 3 }, 1, years },
+    { { "needles", 2 }, 1, needle },
+    { { "no period", 2 }, 1, no_period },
+    { { "wide turns", 3 }, 1, wide_turns },
+    { { "close turns", 2 }, 1, close_turns },
 };
 
 #define FAMILIES (sizeof rows / sizeof rows[0])

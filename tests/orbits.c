@@ -70,8 +70,8 @@ static struct system any_system(void)
     return other;
 }
 
-/* Two directions at right angles: the axes with zeros of both signs, or columns of a turn by a quaternion. */
-static void any_plane(double p[3], double q[3])
+/* The axes with zeros of both signs, or columns of a turn by a quaternion. */
+void any_plane(double p[3], double q[3])
 {
     double a = between(-1, 1), b = between(-1, 1), c = between(-1, 1), d = between(0.1, 1);
     double n = a * a + b * b + c * c + d * d;

@@ -17,6 +17,7 @@ double any_sign(double size);
 double power(int low, int high);     /* of two, either end included */
 double around(int low, int high);     /* a power of two times something from 1 to 2 */
 void any_direction(double unit[3]);
+void any_plane(double p[3], double q[3]);     /* two directions at right angles */
 
 /* The words of eight doubles. */
 void put(uint64_t *words, double mu, const double *position, const double *velocity, double tau);

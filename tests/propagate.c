@@ -44,5 +44,5 @@ int main(int count, char **words)
 {
     drive_start("propagate", USUAL, count, words);
     return drive_all(compare_one, tell, "a refusal or an aim with 0 above was never met:"
-                                        " aim its family in tests/aimed.c or tests/aimed_search.c better");
+                                        " aim its family in tests/aimed.c, aimed_search.c or aimed_revolutions.c better");
 }

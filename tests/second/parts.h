@@ -1,5 +1,5 @@
-/* What the layers promise one another: bits and root; series; search;
- * states and partials; files. */
+/* What the layers promise one another: bits and root; series, with the
+ * revolutions that come off before them; search; states and partials; files. */
 #ifndef PARTS_H
 #define PARTS_H
 
@@ -34,11 +34,13 @@ struct start {
     double mu;
     double position[3];
     double velocity[3];
-    double tau;
+    double whole;       /* tau, the interval that came in */
+    double searched;    /* what is left of it, or all where nothing came off */
+    double revolutions; /* n, those that came off, or a zero */
     double r0;
     double sigma0;
     double alpha;
-    double h;
+    double h; /* of the searched interval */
 };
 
 struct coefficients {
@@ -48,15 +50,38 @@ struct coefficients {
 struct figures {
     struct coefficients c;
     double s1, s2, s3;
-    double error;  /* R, the time error */
+    double error;  /* R, the time error, of the searched interval */
     double radius; /* r */
 };
 
-/* The eight doubles in; 0, or refusal 2, 3 or 4. */
+/* The eight doubles in; 0, or refusal 2, 3 or 4.  Where 4 is given by H alone,
+ * all of the start is there. */
 unsigned sec_start(const double eight[8], struct start *s);
 double sec_length(const struct start *s, double psi); /* L, before reducing */
 struct coefficients sec_coefficients(double length);  /* for a finite L */
 struct figures sec_figures(const struct start *s, double psi);
+
+/* ---- whole revolutions ---- */
+
+double sec_floor(double value);
+double sec_period(double mu, double alpha); /* P, for an alpha below zero */
+double sec_turn(double alpha);              /* Q, likewise */
+/* From mu, alpha and the whole interval, what came off and what is searched. */
+void sec_unwind(struct start *s);
+int sec_unwound(const struct start *s); /* some came off */
+/* The whole anomaly of the psi found, where some came off. */
+double sec_whole_psi(const struct start *s, double psi);
+
+/* The figures of the whole anomaly. */
+struct whole {
+    double psi;
+    double s3, s4, s5;
+    double u; /* U */
+};
+
+/* They, from those at the psi found. */
+struct whole sec_wound(const struct start *s, const struct figures *at,
+                       double psi);
 
 /* ---- search ---- */
 

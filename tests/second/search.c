@@ -1,4 +1,4 @@
-/* The search for the anomaly. */
+/* The search for the anomaly.  Its tau is the searched interval. */
 #include "parts.h"
 
 #define STEP ((uint64_t)1 << 52)
@@ -28,7 +28,7 @@ static double psi_at(const struct start *s, uint64_t place)
 {
     double psi = sec_double(place);
 
-    return sec_negative(s->tau) ? sec_flip(psi) : psi;
+    return sec_negative(s->searched) ? sec_flip(psi) : psi;
 }
 
 static uint64_t place_of(double psi)
@@ -44,7 +44,7 @@ static struct point place_zero(const struct start *s)
     p.sort = SHORT;
     p.place = 0;
     p.psi = psi_at(s, 0);
-    p.error = sec_flip(s->tau);
+    p.error = sec_flip(s->searched);
     p.radius = s->r0;
     return p;
 }
@@ -57,7 +57,7 @@ static enum sort sort_error(const struct start *s, double error)
         return UNREADABLE;
     if (sec_zero(error))
         return EXACT;
-    if (sec_negative(error) != sec_negative(s->tau))
+    if (sec_negative(error) != sec_negative(s->searched))
         return SHORT;
     return PAST;
 }
@@ -122,7 +122,7 @@ static enum sort outward(struct search *q)
 static int fits(const struct search *q, double psi)
 {
     return sec_finite(psi)
-        && sec_negative(psi) == sec_negative(q->s->tau)
+        && sec_negative(psi) == sec_negative(q->s->searched)
         && place_of(psi) > q->low.place
         && place_of(psi) < q->high.place;
 }
@@ -139,9 +139,9 @@ static int by_radius(const struct search *q, double *psi)
 /* Second proposal: psi (1 - R/tau) of the last tried point. */
 static int by_interval(const struct search *q, double *psi)
 {
-    if (sec_zero(q->s->tau))
+    if (sec_zero(q->s->searched))
         return 0;
-    *psi = q->last.psi * (1.0 - q->last.error / q->s->tau);
+    *psi = q->last.psi * (1.0 - q->last.error / q->s->searched);
     return fits(q, *psi);
 }
 
@@ -255,7 +255,7 @@ struct found sec_search(const struct start *s)
     struct search q;
     enum sort sort;
 
-    if (sec_zero(s->tau))
+    if (sec_zero(s->searched))
         return close_search(0, 0, 0.0);
     q.s = s;
     q.points = 0;

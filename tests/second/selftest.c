@@ -119,6 +119,8 @@ int main(void)
     selftest_root();
     selftest_calls();
     selftest_search();
+    selftest_revolutions();
+    selftest_turns();
     selftest_orbits();
     selftest_files();
     selftest_summary();

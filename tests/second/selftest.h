@@ -31,11 +31,15 @@ int kept_bytes(const uint8_t *run, size_t count);
 
 /* A random start: kind 0 ellipse, 1 hyperbola, 2 repelling, 3 no pull. */
 void orbit(double e[8], int kind, double mu, double r);
+/* The period of an ellipse, by Kepler's third law from its major axis. */
+double turn_time(const double e[8]);
 
 /* The groups, by what they are about. */
 void selftest_root(void);
 void selftest_calls(void);
 void selftest_search(void);
+void selftest_revolutions(void);
+void selftest_turns(void);
 void selftest_orbits(void);
 void selftest_files(void);
 void selftest_summary(void);

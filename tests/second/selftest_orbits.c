@@ -8,22 +8,28 @@
 #include <stdio.h>
 #include <string.h>
 
-/* The time error at a place, above zero where it is past. */
+/* The time error at a place, above zero where it is past; it is that of the
+ * searched interval, as all of the search. */
 static double beyond(const struct start *s, uint64_t psi)
 {
     double error = sec_figures(s, sec_double(psi)).error;
 
-    return sec_negative(s->tau) ? -error : error;
+    return sec_negative(s->searched) ? -error : error;
 }
 
 /* The found place is exact; or short, and its upper neighbour is past and no
- * nearer; or past, and its lower neighbour is short and farther. */
+ * nearer; or past, and its lower neighbour is short and farther.  With nothing
+ * to search it is +0, and no point is spent. */
 static void check_found(const double e[8], const uint64_t a[15])
 {
     struct start s;
     double error, other;
 
     check(sec_start(e, &s) == 0, "start refused");
+    if (sec_zero(s.searched)) {
+        check(a[1] == 0 && a[14] == 0, "found with nothing to search");
+        return;
+    }
     check(a[1] >= 1 && a[1] <= 167, "points out of bounds");
     error = beyond(&s, a[14]);
     if (error < 0) {
@@ -149,7 +155,8 @@ static void test_physics(void)
     printf("  most points on these: %lu\n", (unsigned long)most);
 }
 
-/* A circle of unit radius turns by tau. */
+/* A circle of unit radius turns by tau; psi is that of the last turn begun or
+ * the next, whichever is nearer. */
 static void test_circle(void)
 {
     double e[8] = {1, 1, 0, 0, 0, 1, 0, 0}, t;
@@ -162,7 +169,8 @@ static void test_circle(void)
         check(fabs(sec_double(a[3]) - sin(t)) < 1e-11, "circle y");
         check(fabs(sec_double(a[5]) + sin(t)) < 1e-11, "circle vx");
         check(fabs(sec_double(a[6]) - cos(t)) < 1e-11, "circle vy");
-        check(fabs(sec_double(a[14]) - t) < 1e-11, "circle psi");
+        check(fabs(sec_double(a[14]) - remainder(t, 2 * acos(-1))) < 1e-11,
+              "circle psi");
     }
     group("unit circle");
 }
@@ -183,9 +191,9 @@ static void shifted(const double e[8], int column, double step, double out[6])
 }
 
 static void check_column(const double e[8], const uint64_t run[36], int column,
-                         double largest, double *worst)
+                         double step, double largest, double *worst)
 {
-    double more[6], less[6], more2[6], less2[6], step = 2e-4;
+    double more[6], less[6], more2[6], less2[6];
     int row;
 
     shifted(e, column, step, more);
@@ -203,26 +211,51 @@ static void check_column(const double e[8], const uint64_t run[36], int column,
     }
 }
 
+static void check_columns(const double e[8], double step, double *worst)
+{
+    double largest = 0;
+    uint64_t a[15], run[36];
+    int j;
+
+    check(partials(e, a, run, 36) == 0, "partials refused");
+    for (j = 0; j < 36; j++)
+        if (fabs(sec_double(run[j])) > largest)
+            largest = fabs(sec_double(run[j]));
+    for (j = 0; j < 6; j++)
+        check_column(e, run, j, step, largest, worst);
+}
+
 static void test_partials(void)
 {
     double e[8], worst = 0;
-    uint64_t a[15], run[36];
-    int kind, i, j;
+    int kind, i;
 
     for (kind = 0; kind < 4; kind++)
         for (i = 0; i < 400; i++) {
-            double largest = 0;
-
             orbit(e, kind, 1.0, between(0.8, 1.5));
             e[7] /= 3;
-            check(partials(e, a, run, 36) == 0, "partials refused");
-            for (j = 0; j < 36; j++)
-                if (fabs(sec_double(run[j])) > largest)
-                    largest = fabs(sec_double(run[j]));
-            for (j = 0; j < 6; j++)
-                check_column(e, run, j, largest, &worst);
+            check_columns(e, 2e-4, &worst);
         }
     group("partials against differences");
+    printf("  largest relative gap: %.2e\n", worst);
+}
+
+/* The same after whole turns: what a shift does grows with them, and the step
+ * becomes smaller. */
+static void test_partials_turned(void)
+{
+    static const double turns[6] = {1, 2, 3, 10, 100, 1000};
+    double e[8], worst = 0;
+    int i;
+
+    for (i = 0; i < 1200; i++) {
+        double n = turns[i % 6];
+
+        orbit(e, 0, 1.0, between(0.8, 1.5));
+        e[7] += (i % 4 < 2 ? n : -n) * turn_time(e);
+        check_columns(e, 2e-5 / (1 + n), &worst);
+    }
+    group("partials against differences, after turns");
     printf("  largest relative gap: %.2e\n", worst);
 }
 
@@ -257,7 +290,7 @@ static void test_any_bits(void)
               "any bits: partials");
         check(b[0] == a[0] || (a[0] == 0 && b[0] == 8 && b[1] == a[1]),
               "any bits: same refusal");
-        if (a[0] == 0 && !sec_zero(e[7]))
+        if (a[0] == 0)
             check_found(e, a);
     }
     group("any bits");
@@ -272,5 +305,6 @@ void selftest_orbits(void)
     test_physics();
     test_circle();
     test_partials();
+    test_partials_turned();
     test_any_bits();
 }

@@ -27,12 +27,12 @@ static void take(const double eight[8], struct start *s)
         s->position[i] = eight[1 + i];
         s->velocity[i] = eight[4 + i];
     }
-    s->tau = eight[7];
+    s->whole = eight[7];
 }
 
-/* The initial figures r0, sigma0, v squared, alpha and H, with refusal 3 when
+/* The initial figures r0, sigma0, v squared and alpha, with refusal 3 when
  * the sum of squares is zero, and 4 when that sum, sigma0, v squared,
- * (2 mu)/r0, alpha or H is not finite. */
+ * (2 mu)/r0 or alpha is not finite. */
 static unsigned initial(struct start *s)
 {
     double sum = dot(s->position, s->position);
@@ -47,19 +47,31 @@ static unsigned initial(struct start *s)
     square = dot(s->velocity, s->velocity);
     pull = (2.0 * s->mu) / s->r0;
     s->alpha = square - pull;
-    s->h = (sec_size(s->tau) / s->r0) * (1.0 / 1048576.0);
     if (!sec_finite(s->sigma0) || !sec_finite(square) || !sec_finite(pull)
-        || !sec_finite(s->alpha) || !sec_finite(s->h))
+        || !sec_finite(s->alpha))
         return 4;
     return 0;
 }
 
+/* H, of what is searched, with refusal 4 when it is not finite. */
+static unsigned first_step(struct start *s)
+{
+    s->h = (sec_size(s->searched) / s->r0) * (1.0 / 1048576.0);
+    return sec_finite(s->h) ? 0 : 4;
+}
+
 unsigned sec_start(const double eight[8], struct start *s)
 {
+    unsigned refusal;
+
     if (!all_finite(eight))
         return 2;
     take(eight, s);
-    return initial(s);
+    refusal = initial(s);
+    if (refusal != 0)
+        return refusal;
+    sec_unwind(s);
+    return first_step(s);
 }
 
 /* L is alpha times the bracketed square of psi. */
@@ -141,7 +153,8 @@ struct figures sec_figures(const struct start *s, double psi)
     g.s1 = psi * g.c.c1;
     g.s2 = (psi * psi) * g.c.c2;
     g.s3 = ((psi * psi) * psi) * g.c.c3;
-    g.error = ((s->r0 * g.s1 + s->sigma0 * g.s2) + s->mu * g.s3) - s->tau;
+    g.error =
+        ((s->r0 * g.s1 + s->sigma0 * g.s2) + s->mu * g.s3) - s->searched;
     g.radius = (s->r0 * g.c.c0 + s->sigma0 * g.s1) + s->mu * g.s2;
     return g;
 }

@@ -35,7 +35,7 @@ static struct answer refused(unsigned refusal, uint64_t points)
     return a;
 }
 
-/* f, g, f' and g' at the found anomaly. */
+/* f, g, f' and g' at the found anomaly, g of the searched interval. */
 static struct motion moved(const struct start *s, double psi)
 {
     struct motion m;
@@ -47,7 +47,7 @@ static struct motion moved(const struct start *s, double psi)
     m.r = m.at.radius;
     m.r0 = s->r0;
     m.f = 1.0 - (mu * m.at.s2) / m.r0;
-    m.g = s->tau - mu * m.at.s3;
+    m.g = s->searched - mu * m.at.s3;
     m.fd = sec_flip((mu * m.at.s1) / (m.r * m.r0));
     m.gd = 1.0 - (mu * m.at.s2) / m.r;
     m.cube = (m.r * m.r) * m.r;
@@ -114,21 +114,43 @@ static int finite_answer(const struct answer *a)
         && all_finite(a->start_acceleration, 3) && sec_finite(a->psi);
 }
 
-/* U = s2 tau + (mu (c4 - 3 c5)) ((((psi psi) psi) psi) psi). */
+/* U = s2 tau + (mu (c4 - 3 c5)) ((((psi psi) psi) psi) psi), where no
+ * revolution came off. */
 static double universal(const struct motion *m)
 {
     double psi = m->psi;
     double fifth = (((psi * psi) * psi) * psi) * psi;
 
-    return m->at.s2 * m->s->tau
+    return m->at.s2 * m->s->whole
         + (m->s->mu * (m->at.c.c4 - 3.0 * m->at.c.c5)) * fifth;
 }
 
+static int finite_whole(const struct whole *w)
+{
+    return sec_finite(w->psi) && sec_finite(w->s3) && sec_finite(w->s4)
+        && sec_finite(w->s5) && sec_finite(w->u);
+}
+
+/* T-04: U for the partials, or 0 when refusal 8 applies to a figure of the
+ * whole anomaly. */
+static int find_u(const struct motion *m, double *u)
+{
+    struct whole w;
+
+    if (!sec_unwound(m->s)) {
+        *u = universal(m);
+        return 1;
+    }
+    w = sec_wound(m->s, &m->at, m->psi);
+    *u = w.u;
+    return finite_whole(&w);
+}
+
 /* The nine A, each in the document's own order of operations. */
-static struct factors nine(const struct motion *m)
+static struct factors nine(const struct motion *m, double u)
 {
     struct factors n;
-    double mu = m->s->mu, u = universal(m);
+    double mu = m->s->mu;
     double s1 = m->at.s1, s2 = m->at.s2, c0 = m->at.c.c0;
     double r = m->r, r0 = m->r0, f = m->f, g = m->g, fd = m->fd, gd = m->gd;
 
@@ -176,11 +198,12 @@ static int partials(const struct motion *m, const struct answer *a,
                     double run[36])
 {
     struct factors n;
+    double u;
     int i, j;
 
-    if (zero_partial_divisor(m))
+    if (zero_partial_divisor(m) || !find_u(m, &u))
         return 0;
-    n = nine(m);
+    n = nine(m, u);
     for (i = 0; i < 3; i++)
         for (j = 0; j < 3; j++)
             pair(m, a, &n, i, j, run);

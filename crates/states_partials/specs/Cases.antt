@@ -1,10 +1,21 @@
--- The 36 partials of the arc of the lower crate's case, evaluated from the definitions. The figures come from an independent program.
+-- The 36 partials of two arcs, evaluated from the definitions: of the lower crate's case, and of one with whole revolutions. The figures come from an independent
+-- program.
 use mathlib.Core.Path.{_≡_, refl}
 use mathlib.Core.List.{[], _∷_}
-use lib.Ieee.{add, sub, mul, div, neg, ofBits, toBits}
-use Rattle.states_arcs.specs.Cases.{arc}
-use Rattle.states_revolutions.specs.Revolutions.{asItIs}
-use Rattle.states_partials.specs.U.{uAtFound, uOf}
+use mathlib.Core.Bool.{false}
+use lib.Ieee.{add, sub, mul, div, neg, lt, eq, ofInt, ofBits, toBits}
+use Rattle.bits.specs.Arithmetic.{n0}
+use Rattle.bits.specs.Runs.{firstOf, has}
+use Rattle.series.specs.Series.{beyondOne, reducedFrom, nested, c4Of, c5Of, atReduced, coefficientsOf, sumsOf}
+use Rattle.search_points.specs.Residual.{radiusOf}
+use Rattle.states_revolutions.specs.Floor.{floorOf}
+use Rattle.states_revolutions.specs.declared.figures.Interval.{Interval}
+use Rattle.states_revolutions.specs.declared.figures.Course.the-variants.{Closed}
+use Rattle.states_start.specs.declared.figures.Start.{Start}
+use Rattle.states_arcs.specs.Results.{factorsOf, endStateOf, arcOf}
+use Rattle.states_arcs.specs.Cases.{ofWord, vector, arc}
+use Rattle.states_revolutions.specs.Revolutions.{asItIs, withoutTurns, withoutRevolutions, intervalOf}
+use Rattle.states_partials.specs.U.{uAtFound, wholeAnomalyOf, wholeSumsOf, uAtWhole, uOf, uRefused}
 use Rattle.states_partials.specs.Matrix.{matrixOf}
 use Rattle.states_partials.specs.Entries.{plusOf, minusOf, partialOf, unitOf, componentOf, entryOf, upTo, entriesOf}
 use Rattle.bits.specs.Words.{wordsOf}
@@ -20,3 +31,30 @@ its-partials :
     ∷ []
 unfolding add sub mul div neg ofBits toBits asItIs uAtFound uOf matrixOf plusOf minusOf partialOf unitOf componentOf entryOf upTo entriesOf arc
 its-partials = refl
+
+-- T-04: a circle, μ = 1, position (1,0,0), velocity (0,1,0), after three whole revolutions. Nothing is left to search, and ψ is +0. As long as the start is only a little off, the body runs
+-- ahead or behind by three times that for each second: the four entries that are not a unit's are −3·τ and 3·τ, with τ = 18.85.
+a-circle : Start
+a-circle =
+    record {
+      state = record { position = vector 0x3ff0000000000000 0 0; velocity = vector 0 0x3ff0000000000000 0 };
+      initial = record { mu = ofWord 0x3ff0000000000000; r0 = ofWord 0x3ff0000000000000; sigma0 = ofWord 0; alpha = ofWord 0xbff0000000000000 };
+      course = Closed (record { period = record { 0 = ofWord 0x401921fb54442d18 }; anomaly = record { 0 = ofWord 0x401921fb54442d18 } });
+    }
+
+three-times : Interval
+unfolding a-circle
+three-times = intervalOf (a-circle .course) (record { 0 = ofWord 0x4032d97c7f3321d2 })
+
+it-comes-round :
+    (uRefused (arcOf a-circle three-times (record { 0 = n0 })) ≡ false)
+    × (wordsOf (entriesOf (arcOf a-circle three-times (record { 0 = n0 })))
+    ≡ 0x3ff0000000000000 ∷ 0 ∷ 0 ∷ 0 ∷ 0 ∷ 0
+    ∷ 0xc04c463abeccb2c0 ∷ 0x3ff0000000000000 ∷ 0 ∷ 0 ∷ 0xc04c463abeccb2c0 ∷ 0
+    ∷ 0 ∷ 0 ∷ 0x3ff0000000000000 ∷ 0 ∷ 0 ∷ 0
+    ∷ 0x404c463abeccb2c0 ∷ 0x8000000000000000 ∷ 0x8000000000000000 ∷ 0x3ff0000000000000 ∷ 0x404c463abeccb2c0 ∷ 0
+    ∷ 0x8000000000000000 ∷ 0x8000000000000000 ∷ 0x8000000000000000 ∷ 0 ∷ 0x3ff0000000000000 ∷ 0
+    ∷ 0x8000000000000000 ∷ 0x8000000000000000 ∷ 0x8000000000000000 ∷ 0 ∷ 0 ∷ 0x3ff0000000000000
+    ∷ [])
+unfolding add sub mul div neg lt eq ofInt ofBits toBits firstOf has a-circle three-times floorOf asItIs withoutTurns withoutRevolutions intervalOf beyondOne reducedFrom nested c4Of c5Of atReduced coefficientsOf sumsOf radiusOf factorsOf endStateOf arcOf wholeAnomalyOf wholeSumsOf uAtWhole uOf uRefused matrixOf plusOf minusOf partialOf unitOf componentOf entryOf upTo entriesOf
+it-comes-round = (refl, refl)

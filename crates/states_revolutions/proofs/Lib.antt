@@ -1,4 +1,5 @@
 -- The laws of this crate: the floor, what comes off an interval, and what each public function leaves open.
+pub mod AndLaws
 pub mod FloorLaws
 pub mod FloorMeaning
 pub mod RevolutionLaws

@@ -1,8 +1,30 @@
--- Where H is finite, what the search found leads on.
+-- The test of the code is that of the definition, at the H that its function ensures; where it is finite, what the search found leads on.
+use mathlib.Core.Path.{_≡_, sym, _∙_, ap}
+use mathlib.Core.Bool.{Bool, true, false, not}
 use borrow.Author.Needs.{needs}
-use Rattle.states.specs.Call.{reachedOver, reachedOverBy}
+use Rattle.bits.specs.Choice.{pick}
+use Rattle.bits.specs.Arithmetic.{isFinite}
+use Rattle.series.specs.declared.figures.Anomaly.{Anomaly}
+use Rattle.search_proposals.specs.Proposals.{threeProposals}
+use Rattle.search.specs.Search.{searchBy}
+use Rattle.search.specs.declared.figures.Finding.{Finding}
+use Rattle.states_revolutions.specs.declared.figures.Interval.{Interval}
+use Rattle.states_start.specs.Initial.{firstStepOf}
+use Rattle.states_start.specs.declared.figures.Start.{Start}
+use Rattle.states.specs.declared.figures.Reached.{Reached}
+use Rattle.states.specs.declared.figures.Reached.the-variants as reached
+use Rattle.states.specs.Call.{reachedFound, reachedOver, reachedOverBy}
 use Rattle.states.proofs.call.reach_over.Statement.{statement}
 use Rattle.states.proofs.call.reach_over.Tie as tie
+
+module _ (s : Start) (d : Interval) (h : Anomaly) (eh : h ≡ firstStepOf (s .initial) (d .searched)) {finite : Bool} (ef : finite ≡ isFinite (h .0)) where
+  step-refused : not finite ≡ true → reached.Refused 4 0 ≡ reachedOver s d
+  unfolding reachedOverBy
+  step-refused t = rw (← eh, ← ef, t)
+
+  led-on : not finite ≡ false → (f : Finding) → f ≡ searchBy (threeProposals (s .initial) (d .searched)) (s .initial) (d .searched) h → {r : Reached} → r ≡ reachedFound s d f → r ≡ reachedOver s d
+  unfolding reachedOverBy
+  led-on t f es er = rw (← eh, ← ef, t, ← es) er
 
 first-step-requires : tie.Need-first-step-requires
 first-step-requires c κs = search needs
@@ -11,8 +33,7 @@ is-finite-requires : tie.Need-is-finite-requires
 is-finite-requires c κs = search needs
 
 returns : tie.Need-returns
-unfolding reachedOverBy
-returns c = simp (← (c .before .before .first-step .ensures), ← (c .before .is-finite .ensures), c .if1 .taken)
+returns c = step-refused _ _ _ (c .before .before .first-step .ensures) (c .before .is-finite .ensures) (c .if1 .taken)
 
 search-requires : tie.Need-search-requires
 search-requires c κs = search needs
@@ -21,10 +42,9 @@ reached-found-requires : tie.Need-reached-found-requires
 reached-found-requires c κs = search needs
 
 returns-2 : tie.Need-returns-2
-unfolding reachedOverBy
 returns-2 c =
     let h = c .before .before .before in
-    simp (← (h .before .first-step .ensures), ← (h .is-finite .ensures), c .before .before .if1 .left, ← (c .before .search .ensures)) (c .reached-found .ensures)
+    led-on _ _ _ (h .before .first-step .ensures) (h .is-finite .ensures) (c .before .before .if1 .left) _ (c .before .search .ensures) (c .reached-found .ensures)
 
 pub reach-over-spec : {M : Type 1} → statement M
 reach-over-spec =

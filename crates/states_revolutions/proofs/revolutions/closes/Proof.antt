@@ -1,15 +1,16 @@
 -- The two tests are those of the definition.
 use Rattle.states_revolutions.specs.Revolutions.{isClosed}
+use Rattle.states_revolutions.proofs.AndLaws.{and-then, and-not}
 use Rattle.states_revolutions.proofs.revolutions.closes.Statement.{statement}
 use Rattle.states_revolutions.proofs.revolutions.closes.Tie as tie
 
 returns : tie.Need-returns
 unfolding isClosed
-returns c = simp (c .before .if1 .taken)
+returns c = and-then _ _ (c .before .if1 .taken)
 
 returns-2 : tie.Need-returns-2
 unfolding isClosed
-returns-2 c = simp (c .if1 .left)
+returns-2 c = and-not _ _ (c .if1 .left)
 
 pub closes-spec : {M : Type 1} → statement M
 closes-spec = tie.close (tie.spec returns returns-2)

@@ -1,20 +1,40 @@
 -- The test of the code is that of the definition.
-use mathlib.Core.Path.{_∙_}
+use mathlib.Core.Path.{_≡_}
+use mathlib.Core.Bool.{true, false}
 use borrow.Author.Needs.{needs}
-use Rattle.states_revolutions.specs.Revolutions.{withoutTurns}
+use lib.Ieee.{Float, eq}
+use Rattle.bits.specs.Arithmetic.{_⊖_, _⊗_, n0}
+use Rattle.states_revolutions.specs.Revolutions.{asItIs, withoutTurns}
+use Rattle.states_revolutions.specs.declared.figures.WholeInterval.{WholeInterval}
+use Rattle.states_revolutions.specs.declared.figures.Revolution.{Revolution}
+use Rattle.states_revolutions.specs.declared.figures.Interval.{Interval}
+use Rattle.states_revolutions.specs.declared.figures.Off.the-variants.{Revolutions}
 use Rattle.states_revolutions.proofs.revolutions.without_turns.Statement.{statement}
 use Rattle.states_revolutions.proofs.revolutions.without_turns.Tie as tie
+
+module _ (n : Float) (v : Revolution) (whole : WholeInterval) where
+  none : eq n n0 ≡ true → {d : Interval} → d ≡ asItIs whole → d ≡ withoutTurns n v whole
+  unfolding withoutTurns
+  none z e = rw z e
+
+  some : eq n n0 ≡ false →
+      record {
+        whole = whole;
+        searched = record { 0 = whole .0 ⊖ n ⊗ v .period .0 };
+        off = Revolutions (record { 0 = n ⊗ v .anomaly .0 });
+      }
+      ≡ withoutTurns n v whole
+  unfolding withoutTurns
+  some z = rw z
 
 as-it-is-requires : tie.Need-as-it-is-requires
 as-it-is-requires c κs = search needs
 
 returns : tie.Need-returns
-unfolding withoutTurns
-returns c = simp (c .before .if1 .taken) (c .as-it-is .ensures)
+returns c = none _ _ _ (c .before .if1 .taken) (c .as-it-is .ensures)
 
 returns-2 : tie.Need-returns-2
-unfolding withoutTurns
-returns-2 c = simp (c .before .before .before .if1 .left)
+returns-2 c = some _ _ _ (c .before .before .before .if1 .left)
 
 pub without-turns-spec : {M : Type 1} → statement M
 without-turns-spec = tie.close (tie.spec as-it-is-requires returns returns-2)
