@@ -120,10 +120,14 @@ uint64_t kelubashi1_root(uint64_t word, uint64_t *answer, size_t n);
 **     answer    refusal, points, position, velocity, acceleration at the end and at the start, and
 **               the anomaly psi, in the order of the constants above, which have the units
 **
-**  psi has the sign of tau, even as a zero (-0 for tau below zero); for a tau of zero it is +0. Either
-**  the computed time at psi is tau, or psi is one of two neighbouring doubles: at the one nearer to
-**  zero the time is short of tau, and at the other past it. psi is then the one with the smaller error
-**  in time; if the errors are equal in size, or both infinite, it is the one nearer to zero.
+**  On an orbit that closes, whole revolutions come off tau before psi is looked for, up to 2^40 of them
+**  either way, so that about half a period is left at most. psi is the anomaly of that, without those
+**  revolutions; position, velocity and accelerations are those at the end of the whole tau.
+**
+**  psi has the sign of what is left of tau, even as a zero (-0 below zero); where nothing is left it is
+**  +0. Either the computed time at psi is what is left, or psi is one of two neighbouring doubles: at the
+**  one nearer to zero the time is short of it, and at the other past it. psi is then the one with the
+**  smaller error in time; if the errors are equal in size, or both infinite, it is the one nearer to zero.
 **
 **  Refusals: 2 to 8, 60. "Too large" of 4 is said of distance, speed, energy and the first step.
 */

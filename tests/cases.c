@@ -1,6 +1,6 @@
 /*
 **  Cases of documents 01 and 02 through the C face: P6 to P12, both zeros of tau, the nearer end (T-01),
-**  and runs of other lengths.
+**  whole revolutions (T-04), and runs of other lengths.
 **
 **  What is expected comes from the documents alone: marked cases, and formulas worked out by hand where
 **  every step is exact. Words are taken by the header's names, so these are tried too.
@@ -239,6 +239,49 @@ static void two_accelerations(void)
     }
 }
 
+/*
+**  T-04. A circle of radius 1 about mu 1, whose alpha is -1, and whose period is 2 pi as a double. After n times that,
+**  rounded, n revolutions come off and nothing is left to search: psi is +0 with no points, and the end is the start.
+*/
+#define PERIOD 0x1.921fb54442d18p+2
+
+static const struct sample *around(double turns)
+{
+    static struct sample circle = { "T-04, a circle", { 1, 1, 0, 0, 0, 1, 0, 0 },
+        { [KELUBASHI_X] = 1, [KELUBASHI_VY] = 1, [KELUBASHI_END_AX] = -1, -0.0, -0.0, [KELUBASHI_START_AX] = -1, -0.0, -0.0 }, 0, 0 };
+
+    circle.given[7] = turns * PERIOD;
+    return &circle;
+}
+
+static void comes_round(void)
+{
+    static const double turns[] = { 1, 2, 3, 1000, 1048577, 0x1p40 };
+    uint64_t answer[ROOM];
+    size_t i;
+
+    for (i = 0; i < 2 * sizeof turns / sizeof turns[0]; i++) {
+        sample = around(i % 2 == 0 ? turns[i / 2] : -turns[i / 2]);
+        lend(answer);
+        expect_answer(propagate(answer + RUN, KELUBASHI_ANSWER), answer, sample->answer);
+    }
+}
+
+/* Beyond 2^40 revolutions none comes off, and so there is something to search. */
+static void too_many(void)
+{
+    uint64_t answer[KELUBASHI_ANSWER];
+    double turns = 0x1p40 + 1;
+    int i;
+
+    for (i = 0; i < 2; i++, turns = -turns) {
+        sample = around(turns);
+        propagate(answer, KELUBASHI_ANSWER);
+        if (answer[KELUBASHI_POINTS] == 0)
+            differs("points, of which there must be some", KELUBASHI_POINTS, 0, 1);
+    }
+}
+
 int main(void)
 {
     size_t count = sizeof SAMPLES / sizeof SAMPLES[0];
@@ -250,6 +293,8 @@ int main(void)
     }
     row();
     two_accelerations();
-    printf("cases: P6 to P12, both zeros of tau, the nearer end, runs of other lengths: %u calls, none differs\n", calls);
+    comes_round();
+    too_many();
+    printf("cases: P6 to P12, both zeros of tau, the nearer end, whole revolutions, runs of other lengths: %u calls, none differs\n", calls);
     return EXIT_SUCCESS;
 }
