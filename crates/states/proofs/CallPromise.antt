@@ -32,6 +32,7 @@ use Rattle.states_revolutions.specs.Revolutions.{intervalOf}
 use Rattle.states_revolutions.proofs.RevolutionLaws.{nothing-off}
 use Rattle.states_revolutions.specs.declared.figures.WholeInterval.{WholeInterval}
 use Rattle.states_revolutions.specs.declared.figures.Interval.{Interval}
+use Rattle.states_revolutions.specs.declared.figures.Course.{Course}
 use Rattle.states_revolutions.specs.declared.figures.Off.the-variants as off
 use Rattle.states_start.specs.Given.{readOf}
 use Rattle.states_start.specs.Initial.{begunOf, firstStepOf}
@@ -232,18 +233,18 @@ nothing-searched pt pr words s zero =
 
 -- Where nothing comes off, to take revolutions off is to take nothing off.
 module _ (pr : Proposing) where
-  from-begun : (b : Begun) (whole : WholeInterval) → ((s : Start) → b ≡ begun.Start s → intervalOf (s .course) whole .off ≡ off.Nothing)
+  from-begun : (b : Begun) (whole : WholeInterval) → ((s : Start) (c : Course) → b ≡ begun.Start s c → intervalOf c whole .off ≡ off.Nothing)
       → reachedBegunBy intervalOf pr b whole ≡ reachedBegunBy wholly pr b whole
   unfolding reachedFromBy
   from-begun (begun.Refused n) whole none = refl
-  from-begun (begun.Start s) whole none = ap (reachedOverBy pr s) (nothing-off (s .course) whole (none s refl))
+  from-begun (begun.Start s c) whole none = ap (reachedOverBy pr s) (nothing-off c whole (none s c refl))
 
   from-read : (r : Read)
-      → ((o : Orbit) (whole : WholeInterval) (s : Start) → r ≡ read.Orbit o whole → begunOf o ≡ begun.Start s → intervalOf (s .course) whole .off ≡ off.Nothing)
+      → ((o : Orbit) (whole : WholeInterval) (s : Start) (c : Course) → r ≡ read.Orbit o whole → begunOf o ≡ begun.Start s c → intervalOf c whole .off ≡ off.Nothing)
       → reachedReadBy intervalOf pr r ≡ reachedReadBy wholly pr r
   unfolding reachedOrbitBy
   from-read (read.NotFinite k) none = refl
-  from-read (read.Orbit o whole) none = from-begun (begunOf o) whole (λ s e. none o whole s refl e)
+  from-read (read.Orbit o whole) none = from-begun (begunOf o) whole (λ s c e. none o whole s c refl e)
 
 pub else-01-stands : Else01Stands
 unfolding reachedWordsBy propagateBy partialsBy lentBy

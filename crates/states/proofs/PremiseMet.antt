@@ -41,14 +41,14 @@ abbrev orbit : Orbit
 orbit = record { mu = n0; state = record { position = vector 0x3ff0000000000000; velocity = vector 0 } }
 
 abbrev start : Start
-start = record { state = orbit .state; initial = atRest; course = Open }
+start = record { state = orbit .state; initial = atRest }
 
 abbrev whole : WholeInterval
 whole = record { 0 = oneSecond .0 }
 
 pub p10-searches : Searches intervalOf p10
 unfolding intervalOf asItIs isClosed courseOf lt readOf firstOf has dot begunOf firstStepOf rootWordOf rootOf add sub mul div eq ofBits toBits
-p10-searches = record { orbit = orbit; whole = whole; start = start; reads = refl; begins = refl; steps = refl }
+p10-searches = record { orbit = orbit; whole = whole; start = start; course = Open; reads = refl; begins = refl; steps = refl }
 
 first-place : firstPlace start oneSecond ≡ placeOfH
 unfolding firstStepOf mul div ofBits toBits
@@ -68,7 +68,7 @@ orbitIn (read.Orbit o d) = o
 orbitIn (read.NotFinite k) = orbit
 
 courseIn : Begun → Course
-courseIn (begun.Start s) = s .course
+courseIn (begun.Start s c) = c
 courseIn (begun.Refused n) = Open
 
 p10-open : courseIn (begunOf (orbitIn (readOf p10))) ≡ Open
@@ -81,6 +81,6 @@ nothing-of-open d = refl
 
 pub p10-as-before : NoneComesOff p10
 unfolding orbitIn courseIn
-p10-as-before o d s reads begins =
-    let course : s .course ≡ Open = ap courseIn (sym begins) ∙ ap (λ (x : Orbit). courseIn (begunOf x)) (ap orbitIn (sym reads)) ∙ p10-open in
+p10-as-before o d s c reads begins =
+    let course : c ≡ Open = ap courseIn (sym begins) ∙ ap (λ (x : Orbit). courseIn (begunOf x)) (ap orbitIn (sym reads)) ∙ p10-open in
     ap (λ (x : Course). intervalOf x d .off) course ∙ nothing-of-open d

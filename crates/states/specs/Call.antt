@@ -72,13 +72,13 @@ Parting = Course → WholeInterval → Interval
 abbrev pub wholly : Parting
 wholly course whole = asItIs whole
 
-unfoldable pub reachedFromBy : Parting → Proposing → Start → WholeInterval → Reached
-reachedFromBy pt pr s whole = reachedOverBy pr s (pt (s .course) whole)
+unfoldable pub reachedFromBy : Parting → Proposing → Start → Course → WholeInterval → Reached
+reachedFromBy pt pr s c whole = reachedOverBy pr s (pt c whole)
 
 -- Refusals 3 and 4 by the orbit.
 abbrev pub reachedBegunBy : Parting → Proposing → Begun → WholeInterval → Reached
 reachedBegunBy pt pr (begun.Refused n) whole = reached.Refused n 0
-reachedBegunBy pt pr (begun.Start s) whole = reachedFromBy pt pr s whole
+reachedBegunBy pt pr (begun.Start s c) whole = reachedFromBy pt pr s c whole
 
 unfoldable pub reachedOrbitBy : Parting → Proposing → Orbit → WholeInterval → Reached
 reachedOrbitBy pt pr o whole = reachedBegunBy pt pr (begunOf o) whole
@@ -107,7 +107,7 @@ propagateBy pt pr words = answerFrom (reachedWordsBy pt pr words)
 abbrev pub reachedOver : Start → Interval → Reached
 reachedOver = reachedOverBy threeProposals
 
-abbrev pub reachedFrom : Start → WholeInterval → Reached
+abbrev pub reachedFrom : Start → Course → WholeInterval → Reached
 reachedFrom = reachedFromBy intervalOf threeProposals
 
 abbrev pub reachedBegun : Begun → WholeInterval → Reached

@@ -16,6 +16,7 @@ use Rattle.series.specs.declared.figures.Seconds.{Seconds}
 use Rattle.states_revolutions.specs.Revolutions.{intervalOf}
 use Rattle.states_revolutions.specs.declared.figures.WholeInterval.{WholeInterval}
 use Rattle.states_revolutions.specs.declared.figures.Interval.{Interval}
+use Rattle.states_revolutions.specs.declared.figures.Course.{Course}
 use Rattle.states_revolutions.specs.declared.figures.Off.the-variants as off
 use Rattle.states_arcs.specs.Results.{arcOf, resultsOf}
 use Rattle.states_start.specs.Given.{readOf}
@@ -44,16 +45,17 @@ pub record Searches (pt : Parting) (words : List ℕ) : Type 0 where
   pub orbit : Orbit
   pub whole : WholeInterval
   pub start : Start
+  pub course : Course
   -- Not refused by 2.
   pub reads : readOf words ≡ read.Orbit orbit whole
   -- Not by 3, nor by 4 but for H.
-  pub begins : begunOf orbit ≡ begun.Start start
+  pub begins : begunOf orbit ≡ begun.Start start course
   -- Nor for H.
-  pub steps : isFinite (firstStepOf (start .initial) (pt (start .course) whole .searched) .0) ≡ true
+  pub steps : isFinite (firstStepOf (start .initial) (pt course whole .searched) .0) ≡ true
 
 -- The interval of such a call, and the part of it that is searched.
 abbrev pub intervalIn : {pt : Parting} {words : List ℕ} → Searches pt words → Interval
-intervalIn {pt = pt} s = pt (s .start .course) (s .whole)
+intervalIn {pt = pt} s = pt (s .course) (s .whole)
 
 abbrev pub searchedIn : {pt : Parting} {words : List ℕ} → Searches pt words → Seconds
 searchedIn s = intervalIn s .searched
@@ -109,7 +111,7 @@ NothingSearched =
 -- T-04, "else 01 stands": no revolution comes off what the words ask for.
 abbrev pub NoneComesOff : List ℕ → Type 0
 NoneComesOff words =
-    (o : Orbit) (whole : WholeInterval) (s : Start) → readOf words ≡ read.Orbit o whole → begunOf o ≡ begun.Start s → intervalOf (s .course) whole .off ≡ off.Nothing
+    (o : Orbit) (whole : WholeInterval) (s : Start) (c : Course) → readOf words ≡ read.Orbit o whole → begunOf o ≡ begun.Start s c → intervalOf c whole .off ≡ off.Nothing
 
 -- Then every word of every answer, and of the lent run, is that of the call that takes nothing off.
 abbrev pub Else01Stands : Type 0

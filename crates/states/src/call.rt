@@ -6,6 +6,7 @@ use super::figures::Reached;
 use series::Anomaly;
 use states_arcs::Ended;
 use states_arcs::Results;
+use states_revolutions::Course;
 use states_revolutions::Interval;
 use states_revolutions::WholeInterval;
 use states_start::Begun;
@@ -78,11 +79,10 @@ fn reach_over(start: Start, interval: Interval) -> Reached
     reached_found(start, interval, search::search(initial, tau, h))
 }
 
-// From a start over a whole interval: its revolutions come off first. One batch of requests of one orbit can share its start.
-fn reach_from(start: Start, whole: WholeInterval) -> Reached
-    ensures { λ r. ⌜ r ≡ reachedFrom start whole ⌝ }
+// From a start over a whole interval: its revolutions come off first. One batch of requests of one orbit can share its start and its course.
+fn reach_from(start: Start, course: Course, whole: WholeInterval) -> Reached
+    ensures { λ r. ⌜ r ≡ reachedFrom start course whole ⌝ }
 {
-    let course = start.course;
     reach_over(start, states_revolutions::interval_of(course, whole))
 }
 
@@ -91,7 +91,7 @@ fn reach_orbit(orbit: Orbit, whole: WholeInterval) -> Reached
     ensures { λ r. ⌜ r ≡ reachedOrbit orbit whole ⌝ }
 {
     match states_start::start_of(orbit) {
-        Begun::Start(start) => reach_from(start, whole),
+        Begun::Start(start, course) => reach_from(start, course, whole),
         Begun::Refused(refusal) => Reached::Refused(refusal, 0),
     }
 }

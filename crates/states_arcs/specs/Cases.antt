@@ -6,7 +6,6 @@ use Rattle.bits.specs.Runs.{firstOf, has}
 use Rattle.series.specs.Series.{beyondOne, reducedFrom, nested, c4Of, c5Of, atReduced, coefficientsOf, sumsOf}
 use Rattle.search_points.specs.Residual.{radiusOf}
 use Rattle.states_revolutions.specs.Revolutions.{asItIs}
-use Rattle.states_revolutions.specs.declared.figures.Course.the-variants.{Open}
 use Rattle.states_arcs.specs.Results.{factorsOf, endStateOf, arcOf, accelerationOf, resultsOf, figuresOf, endedOf}
 use Rattle.states_start.specs.declared.figures.Vector.{Vector}
 use Rattle.states_arcs.specs.declared.figures.Arc.{Arc}
@@ -25,7 +24,6 @@ arc =
       start = record {
         state = record { position = vector 0x3ff0000000000000 0x3fd0000000000000 0xbfe0000000000000; velocity = vector 0x3fc0000000000000 0x3ff0000000000000 0x3fe0000000000000 };
         initial = record { mu = ofWord 0x3ff0000000000000; r0 = ofWord 0x3ff2548eb9151e85; sigma0 = ofWord 0x3fc0000000000000; alpha = ofWord 0xbfdeba415bee70e4 };
-        course = Open;
       };
       interval = asItIs (record { 0 = ofWord 0x3ff8000000000000 });
       psi = record { 0 = ofWord 0x3ff255aca3e4576b };

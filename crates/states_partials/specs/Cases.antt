@@ -10,6 +10,7 @@ use Rattle.series.specs.Series.{beyondOne, reducedFrom, nested, c4Of, c5Of, atR
 use Rattle.search_points.specs.Residual.{radiusOf}
 use Rattle.states_revolutions.specs.Floor.{floorOf}
 use Rattle.states_revolutions.specs.declared.figures.Interval.{Interval}
+use Rattle.states_revolutions.specs.declared.figures.Course.{Course}
 use Rattle.states_revolutions.specs.declared.figures.Course.the-variants.{Closed}
 use Rattle.states_start.specs.declared.figures.Start.{Start}
 use Rattle.states_arcs.specs.Results.{factorsOf, endStateOf, arcOf}
@@ -39,12 +40,13 @@ a-circle =
     record {
       state = record { position = vector 0x3ff0000000000000 0 0; velocity = vector 0 0x3ff0000000000000 0 };
       initial = record { mu = ofWord 0x3ff0000000000000; r0 = ofWord 0x3ff0000000000000; sigma0 = ofWord 0; alpha = ofWord 0xbff0000000000000 };
-      course = Closed (record { period = record { 0 = ofWord 0x401921fb54442d18 }; anomaly = record { 0 = ofWord 0x401921fb54442d18 } });
     }
 
+its-course : Course
+its-course = Closed (record { period = record { 0 = ofWord 0x401921fb54442d18 }; anomaly = record { 0 = ofWord 0x401921fb54442d18 } })
+
 three-times : Interval
-unfolding a-circle
-three-times = intervalOf (a-circle .course) (record { 0 = ofWord 0x4032d97c7f3321d2 })
+three-times = intervalOf its-course (record { 0 = ofWord 0x4032d97c7f3321d2 })
 
 it-comes-round :
     (uRefused (arcOf a-circle three-times (record { 0 = n0 })) ≡ false)
@@ -56,5 +58,5 @@ it-comes-round :
     ∷ 0x8000000000000000 ∷ 0x8000000000000000 ∷ 0x8000000000000000 ∷ 0 ∷ 0x3ff0000000000000 ∷ 0
     ∷ 0x8000000000000000 ∷ 0x8000000000000000 ∷ 0x8000000000000000 ∷ 0 ∷ 0 ∷ 0x3ff0000000000000
     ∷ [])
-unfolding add sub mul div neg lt eq ofInt ofBits toBits firstOf has a-circle three-times floorOf asItIs withoutTurns withoutRevolutions intervalOf beyondOne reducedFrom nested c4Of c5Of atReduced coefficientsOf sumsOf radiusOf factorsOf endStateOf arcOf wholeAnomalyOf wholeSumsOf uAtWhole uOf uRefused matrixOf plusOf minusOf partialOf unitOf componentOf entryOf upTo entriesOf
+unfolding add sub mul div neg lt eq ofInt ofBits toBits firstOf has a-circle its-course three-times floorOf asItIs withoutTurns withoutRevolutions intervalOf beyondOne reducedFrom nested c4Of c5Of atReduced coefficientsOf sumsOf radiusOf factorsOf endStateOf arcOf wholeAnomalyOf wholeSumsOf uAtWhole uOf uRefused matrixOf plusOf minusOf partialOf unitOf componentOf entryOf upTo entriesOf
 it-comes-round = (refl, refl)

@@ -20,6 +20,7 @@ use Rattle.bits.specs.declared.runs.Sought.the-variants.{NotFinite}
 use Rattle.bits.proofs.Doubles.{word-positive}
 use Rattle.bits.proofs.Exists.{nearest-word}
 use Rattle.bits.proofs.RunLaws.{none-sought}
+use Rattle.states_revolutions.specs.declared.figures.Course.{Course}
 use Rattle.states_start.specs.Given.{doubleAt, orbit, interval, readOf, readRefusal}
 use Rattle.states_start.specs.Initial.{dot, begunOf}
 use Rattle.states_start.specs.declared.figures.Orbit.{Orbit}
@@ -83,18 +84,18 @@ over-zero (fin s m e) = go (eqb m 0) s
     go false true = refl
     go false false = refl
 
-module _ (first s : Start) (words : List ℕ) where
-  from-tests : (zero bad : Bool) → has NotFinite words ≡ bad → pick zero (begun.Refused 3) (pick bad (begun.Refused 4) (begun.Start first)) ≡ begun.Start s
+module _ (first s : Start) (k c : Course) (words : List ℕ) where
+  from-tests : (zero bad : Bool) → has NotFinite words ≡ bad → pick zero (begun.Refused 3) (pick bad (begun.Refused 4) (begun.Start first k)) ≡ begun.Start s c
       → (has NotFinite words ≡ false) × (first ≡ s)
   from-tests true bad f e = absurd (let z : _≡_ {A = ℕ} 0 1 = cc in omega arith)
   from-tests false true f e = absurd (let z : _≡_ {A = ℕ} 0 1 = cc in omega arith)
   from-tests false false f e = (f, cc)
 
-pub r0-positive : (o : Orbit) (s : Start) → begunOf o ≡ begun.Start s → T (positive (s .initial .r0))
+pub r0-positive : (o : Orbit) (s : Start) (c : Course) → begunOf o ≡ begun.Start s c → T (positive (s .initial .r0))
 unfolding begunOf
-r0-positive o s e =
+r0-positive o s c e =
     let sum = dot (o .state .position) (o .state .position) in
-    let t = from-tests _ s _ (eq sum n0) _ refl e in
+    let t = from-tests _ s _ c _ (eq sum n0) _ refl e in
     elim (root-figure sum) [
       | inl z ↦ absurd (true≢false (sym (over-zero (n2 ⊗ o .mu)) ∙ ap (λ (r : Float). isSought NotFinite (toBits binary64 ((n2 ⊗ o .mu) ⊘ r))) (sym z) ∙ none-sought NotFinite _ (t .0) 3 (omega arith)))
       | inr p ↦ subst (λ (x : Start). T (positive (x .initial .r0))) (t .1) p

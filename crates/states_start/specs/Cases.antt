@@ -42,7 +42,7 @@ its-course = Closed (record { period = record { 0 = ofBits binary64 0x4032e30370
 
 figures :
     (readOf an-orbit ≡ read.Orbit (orbit an-orbit) (interval an-orbit))
-    × (begunOf (orbit an-orbit) ≡ begun.Start (record { state = orbit an-orbit .state; initial = its-initial; course = its-course }))
+    × (begunOf (orbit an-orbit) ≡ begun.Start (record { state = orbit an-orbit .state; initial = its-initial }) its-course)
     × (firstStepOf its-initial (record { 0 = interval an-orbit .0 }) .0 ≡ ofBits binary64 0x3eb4f2ec413cb52b)
 unfolding an-orbit its-initial its-course revolutionOf isClosed isUsable courseOf neg lt firstOf has readOf dot begunOf firstStepOf rootWordOf rootOf add sub mul div eq ofBits toBits
 figures = (refl, refl, refl)

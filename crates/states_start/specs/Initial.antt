@@ -17,7 +17,6 @@ use Rattle.states_revolutions.specs.Revolutions.{courseOf}
 use Rattle.states_start.specs.declared.figures.Vector.{Vector}
 use Rattle.states_start.specs.declared.figures.State.{State}
 use Rattle.states_start.specs.declared.figures.Orbit.{Orbit}
-use Rattle.states_start.specs.declared.figures.Start.{Start}
 use Rattle.states_start.specs.declared.figures.Begun.{Begun}
 use Rattle.states_start.specs.declared.figures.Begun.the-variants as begun
 
@@ -25,9 +24,9 @@ use Rattle.states_start.specs.declared.figures.Begun.the-variants as beg
 unfoldable pub dot : Vector → Vector → Float
 dot a b = (a .x ⊗ b .x ⊕ a .y ⊗ b .y) ⊕ a .z ⊗ b .z
 
--- T-04: the period is the state's, "worked out from" its initial figures after refusals 3 and 4.
-abbrev pub startFrom : State → Initial → Start
-startFrom s i = record { state = s; initial = i; course = courseOf i }
+-- T-04: the period is the state's, and worked out from its initial figures after refusals 3 and 4.
+abbrev pub startFrom : State → Initial → Begun
+startFrom s i = begun.Start (record { state = s; initial = i }) (courseOf i)
 
 -- "α = v² − (2·μ)/r0". Refusal 3: "(x·x+y·y)+z·z is zero". Refusal 4: "that sum, σ0, v², (2·μ)/r0, α or H below isn't finite"; H is the interval's,
 -- and refused where the interval is (Call of crate `states`).
@@ -37,7 +36,7 @@ begunFrom o sum r0 sigma0 v2 =
     let alpha = v2 ⊖ quotient in
     pick (eq sum n0) (begun.Refused 3)
     (pick (has NotFinite (wordsOf (sum ∷ sigma0 ∷ v2 ∷ quotient ∷ alpha ∷ []))) (begun.Refused 4)
-    (begun.Start (startFrom (o .state) (record { mu = o .mu; r0 = r0; sigma0 = sigma0; alpha = alpha }))))
+    (startFrom (o .state) (record { mu = o .mu; r0 = r0; sigma0 = sigma0; alpha = alpha })))
 
 -- "r0 = root of that sum"
 unfoldable pub begunOf : Orbit → Begun

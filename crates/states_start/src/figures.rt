@@ -28,15 +28,14 @@ pub enum Read {
     NotFinite(u64),
 }
 
-// What every interval of one orbit begins with: its state, its initial figures, mu among them, and its course, with the period if it has one.
+// What every interval of one orbit begins with: its state, and its initial figures, mu among them.
 pub struct Start {
     pub state: State,
     pub initial: Initial,
-    pub course: Course,
 }
 
-// The start of an orbit, or the number of the refusal.
+// The start of an orbit, and its course, with the period if it has one; or the number of the refusal.
 pub enum Begun {
-    Start(Start),
+    Start(Start, Course),
     Refused(u64),
 }

@@ -66,12 +66,10 @@ pub fn start_of(orbit: Orbit) -> Begun
         sigma0,
         alpha,
     };
-    let course = states_revolutions::course_of(initial);
-    Begun::Start(Start {
-        state,
-        initial,
-        course,
-    })
+    Begun::Start(
+        Start { state, initial },
+        states_revolutions::course_of(initial),
+    )
 }
 
 // H (s/km), an anomaly, from which the search goes outward. tau is the interval that is searched.

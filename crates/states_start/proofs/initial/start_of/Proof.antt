@@ -36,12 +36,12 @@ module _ (o : Orbit) (sum r0 sigma0 v2 : Float) (words : List ℕ)
   initial : Initial
   initial = record { mu = o .mu; r0 = r0; sigma0 = sigma0; alpha = v2 ⊖ (n2 ⊗ o .mu) ⊘ r0 }
 
-  decided : (b : Bool) → b ≡ has NotFinite words → pick b (Refused 4) (Start (startFrom (o .state) initial)) ≡ begunOf o
+  decided : (b : Bool) → b ≡ has NotFinite words → pick b (Refused 4) (startFrom (o .state) initial) ≡ begunOf o
   unfolding initial
   decided b h = sym (rw (z, ← ew, ← h)) ∙ from-calls
 
-  begun : has NotFinite words ≡ false → (k : Course) → k ≡ courseOf initial → Start (record { state = o .state; initial = initial; course = k }) ≡ begunOf o
-  begun h k ek = ap (λ (x : Course). Start (record { state = o .state; initial = initial; course = x })) ek ∙ decided false (sym h)
+  begun : has NotFinite words ≡ false → (k : Course) → k ≡ courseOf initial → Start (record { state = o .state; initial = initial }) k ≡ begunOf o
+  begun h k ek = ap (Start (record { state = o .state; initial = initial })) ek ∙ decided false (sym h)
 
 product-requires : tie.Need-product-requires
 product-requires c κs = search needs
