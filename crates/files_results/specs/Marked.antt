@@ -14,7 +14,7 @@ use Rattle.search_points.specs.Trial.{anomalyAt, sortOf, evaluatedAt, trialAt}
 use Rattle.search_rule.specs.Rule.{onward, outward, halving, round, inward, history, counted}
 use Rattle.search.specs.Search.{searchChoosing}
 use Rattle.states_revolutions.specs.Floor.{floorOf}
-use Rattle.states_revolutions.specs.Revolutions.{revolutionOf, isClosed, isUsable, courseOf, asItIs, withoutTurns, withoutRevolutions, intervalOf}
+use Rattle.states_revolutions.specs.Revolutions.{revolutionOf, isClosed, isUsable, courseOf, asItIs, withoutN, withoutRevolutions, intervalOf}
 use Rattle.states_arcs.specs.Results.{factorsOf, endStateOf, arcOf, accelerationOf, resultsOf, figuresOf, endedOf}
 use Rattle.states_start.specs.Given.{readOf}
 use Rattle.states_start.specs.Initial.{dot, begunOf, firstStepOf}
@@ -71,8 +71,8 @@ abbrev staysWith : (points psi : ℕ) → List ℕ
 staysWith points psi =
     0 ∷ points ∷ one ∷ 0 ∷ 0 ∷ 0 ∷ 0 ∷ 0 ∷ minusZero ∷ minusZero ∷ minusZero ∷ minusZero ∷ minusZero ∷ minusZero ∷ psi ∷ []
 
--- T-04: a circle, "μ = 1, position (1,0,0), velocity (0,1,0)", whose period is 2·π as a double. After three of them, forward or back, it is where it began, "ψ is +0 with
--- no points", and the figures can be worked out by hand.
+-- T-04: a circle, μ = 1, position (1,0,0), velocity (0,1,0), whose period is 2·π as a double. After three of them, forward or back, it is where it began, "ψ is +0 with no
+-- points", and the figures can be worked out by hand.
 abbrev around : (tau : ℕ) → List ℕ
 around tau = one ∷ one ∷ 0 ∷ 0 ∷ 0 ∷ one ∷ 0 ∷ tau ∷ []
 
@@ -114,5 +114,5 @@ table =
 
 -- Each case of the table gives what it must.
 pub marked : map (λ (c : Case). given (c .asked)) table ≡ map (λ (c : Case). c .must) table
-unfolding resultFile readingOf rowsOf rowOf requestWords propagateBy answerWords reachedWordsBy reachedOrbitBy reachedFromBy reachedOverBy reachedFound intervalOf withoutRevolutions withoutTurns asItIs floorOf courseOf isClosed isUsable revolutionOf ofInt endedAnswer answered refused readOf begunOf dot firstStepOf endedOf figuresOf resultsOf accelerationOf arcOf endStateOf factorsOf has firstOf searchChoosing history inward round halving outward onward counted trialAt evaluatedAt sortOf anomalyAt timeErrorOf radiusOf coefficientsOf sumsOf quotientsOf doublings atReduced c4Of c5Of nested reducedFrom beyondOne rootOf rootWordOf asBytes add sub mul div neg lt eq ne ofBits toBits
+unfolding resultFile readingOf rowsOf rowOf requestWords propagateBy answerWords reachedWordsBy reachedOrbitBy reachedFromBy reachedOverBy reachedFound intervalOf withoutRevolutions withoutN asItIs floorOf courseOf isClosed isUsable revolutionOf ofInt endedAnswer answered refused readOf begunOf dot firstStepOf endedOf figuresOf resultsOf accelerationOf arcOf endStateOf factorsOf has firstOf searchChoosing history inward round halving outward onward counted trialAt evaluatedAt sortOf anomalyAt timeErrorOf radiusOf coefficientsOf sumsOf quotientsOf doublings atReduced c4Of c5Of nested reducedFrom beyondOne rootOf rootWordOf asBytes add sub mul div neg lt eq ne ofBits toBits
 marked = refl

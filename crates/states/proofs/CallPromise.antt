@@ -8,7 +8,9 @@ use native.Mathlib.Omega.{arith}
 use borrow.Author.Tests.{eq-eqb}
 use lib.Dec.{eqb}
 use lib.ListN.{length}
+use lib.Ieee.{Float, nan, inf, fin, mul, div, ofBits}
 use Rattle.bits.specs.Choice.{pick}
+use Rattle.bits.specs.Arithmetic.{_⊗_, _⊘_, n0, isFinite}
 use Rattle.bits.specs.Words.{wordsOf}
 use Rattle.search.specs.Search.{Proposing, searchBy}
 use Rattle.series.specs.declared.figures.Anomaly.{Anomaly}
@@ -35,7 +37,7 @@ use Rattle.states_revolutions.specs.declared.figures.Interval.{Interval}
 use Rattle.states_revolutions.specs.declared.figures.Course.{Course}
 use Rattle.states_revolutions.specs.declared.figures.Off.the-variants as off
 use Rattle.states_start.specs.Given.{readOf}
-use Rattle.states_start.specs.Initial.{begunOf, firstStepOf}
+use Rattle.states_start.specs.Initial.{begunOf, twoToMinus20, firstStepOf}
 use Rattle.states_start.specs.declared.figures.Orbit.{Orbit}
 use Rattle.states_start.specs.declared.figures.Read.{Read}
 use Rattle.states_start.specs.declared.figures.Read.the-variants as read
@@ -44,7 +46,7 @@ use Rattle.states_start.specs.declared.figures.Begun.{Begun}
 use Rattle.states_start.specs.declared.figures.Start.{Start}
 use Rattle.states.specs.Call.{Parting, wholly, noResults, refused, answered, reachedFound, reachedOverBy, reachedFromBy, reachedBegunBy, reachedOrbitBy, reachedReadBy, reachedWordsBy, endedAnswer, answerFrom, propagateBy}
 use Rattle.states.specs.WithPartials.{withPartials, endedWith, lentEnded, partialsFrom, lentFrom, partialsBy, lentBy}
-use Rattle.states.specs.CallPromise.{ZerosOrAnswer, UnchangedOrAnswer, Searches, intervalIn, searchedIn, Reports, FindsAnomaly, CountsPoints, NothingSearched, NoneComesOff, Else01Stands}
+use Rattle.states.specs.CallPromise.{ZerosOrAnswer, UnchangedOrAnswer, Searches, intervalIn, searchedIn, Reports, FindsAnomaly, CountsPoints, SearchesFinite, AtOnce, NothingSearched, Else01Stands}
 use Rattle.states.specs.declared.figures.Reached.{Reached}
 use Rattle.states.specs.declared.figures.Reached.the-variants as reached
 use Rattle.states.specs.declared.figures.Answer.{Answer}
@@ -225,11 +227,34 @@ counts-points pt pr words s nonzero =
 
 -- An interval that is zero once its revolutions are off is not searched.
 pub nothing-searched : NothingSearched
-unfolding reachedFound
+unfolding reachedFound propagateBy partialsBy
 nothing-searched pt pr words s zero =
     let tau = searchedIn s in
     let i = s .start .initial in
-    reaches pt pr words s (promise-by (pr i tau) i tau (firstStepOf i tau) .no-interval zero)
+    let psi : Anomaly = record { 0 = n0 } in
+    let arc = arcOf (s .start) (intervalIn s) psi in
+    let r = resultsOf arc in
+    let x : reachedWordsBy pt pr words ≡ reached.End arc 0 = reaches pt pr words s (promise-by (pr i tau) i tau (firstStepOf i tau) .no-interval zero) in
+    let at-once : (a : Answer) → Settled a 0 r → AtOnce a =
+    λ a so. (settled-points a 0 r so, λ z. settled-psi a 0 r so z ∙ psi-of (s .start) (intervalIn s) psi) in (
+      at-once (propagateBy pt pr words) (rw x (settled 0 (endedOf arc) r (seven-or-eight arc))),
+      λ run h. at-once (partialsBy pt pr words run) (rw (eq-eqb (length run) 36 h, x) (settled-with arc 0 (endedOf arc) r run h (seven-or-eight arc))),
+    )
+
+-- An interval that is not finite has no finite H, whatever r0 is.
+beyond-step : (i : Initial) (x : Float) → isFinite (firstStepOf i (record { 0 = x }) .0) ≡ true → isFinite x ≡ true
+unfolding firstStepOf mul div ofBits
+beyond-step i nan h = h
+beyond-step i (inf t) h = go (i .r0) h
+  where
+    go : (r : Float) → isFinite ((inf false ⊘ r) ⊗ twoToMinus20) ≡ true → false ≡ true
+    go nan e = e
+    go (inf u) e = e
+    go (fin u m k) e = e
+beyond-step i (fin t m e) h = refl
+
+pub searches-finite : SearchesFinite
+searches-finite pt words s = beyond-step (s .start .initial) (searchedIn s .0) (s .steps)
 
 -- Where nothing comes off, to take revolutions off is to take nothing off.
 module _ (pr : Proposing) where

@@ -21,13 +21,12 @@ use Rattle.states_revolutions.specs.declared.figures.Off.the-variants as off
 use Rattle.states_arcs.specs.Results.{arcOf, resultsOf}
 use Rattle.states_start.specs.Given.{readOf}
 use Rattle.states_start.specs.Initial.{begunOf, firstStepOf}
-use Rattle.states.specs.Call.{Parting, wholly, refused, answered, noResults, reachedWordsBy, propagateBy}
+use Rattle.states.specs.Call.{Parting, wholly, refused, answered, noResults, propagateBy}
 use Rattle.states.specs.WithPartials.{partialsBy, lentBy}
 use Rattle.states_start.specs.declared.figures.Orbit.{Orbit}
 use Rattle.states_start.specs.declared.figures.Start.{Start}
 use Rattle.states_start.specs.declared.figures.Read.the-variants as read
 use Rattle.states_start.specs.declared.figures.Begun.the-variants as begun
-use Rattle.states.specs.declared.figures.Reached.the-variants as reached
 use Rattle.states.specs.declared.figures.Answer.{Answer}
 
 -- Demand 1: "A bad number, a zero radius, an unreachable time or a damaged file gets the one refusal that the rules give it, with zeros for figures and lent memory
@@ -65,7 +64,7 @@ abbrev pub firstPlace : Start → Seconds → ℕ
 firstPlace s tau = placeOf (firstStepOf (s .initial) tau .0)
 
 -- "At most 167 trial points are spent, and the reported number is how many the search used. The call answers with that anomaly or refuses by 7 or 8 alone."
--- The anomaly is `anomalyAt tau place`. Since T-01 it reads: "a zero error, or one end of an adjacent short and past pair, chosen so". That is `IsAnomaly`; what it says by
+-- The anomaly is `anomalyAt` of the searched interval and the place. Since T-01 it reads: "a zero error, or one end of an adjacent short and past pair, chosen so". That is `IsAnomaly`; what it says by
 -- sorts is said by document 01's R in `sorts-mean` of crate `search_points`.
 pub record AnswersAt (pr : Proposing) (s : Start) (d : Interval) (a : Answer) : Type 0 where
   pub place : ℕ
@@ -102,11 +101,18 @@ CountsPoints =
     let used = length (triedBy (pr i tau) i tau (firstPlace (s .start) tau)) in
     (propagateBy pt pr words .points ≡ used) × ((run : List ℕ) → length run ≡ 36 → partialsBy pt pr words run .points ≡ used)
 
--- T-04: "if that interval is zero, ψ is +0 with no points". Then both calls go on from the arc at +0.
+-- What is searched is finite: where nothing else is refused, refusal 4 by H is.
+abbrev pub SearchesFinite : Type 0
+SearchesFinite = (pt : Parting) (words : List ℕ) (s : Searches pt words) → isFinite (searchedIn s .0) ≡ true
+
+-- T-04: "if that interval is zero, ψ is +0 with no points", of both calls.
+abbrev pub AtOnce : Answer → Type 0
+AtOnce a = (a .points ≡ 0) × (a .refusal ≡ 0 → a .results .psi ≡ record { 0 = n0 })
+
 abbrev pub NothingSearched : Type 0
 NothingSearched =
     (pt : Parting) (pr : Proposing) (words : List ℕ) (s : Searches pt words) → eq (searchedIn s .0) n0 ≡ true →
-    reachedWordsBy pt pr words ≡ reached.End (arcOf (s .start) (intervalIn s) (record { 0 = n0 })) 0
+    AtOnce (propagateBy pt pr words) × ((run : List ℕ) → length run ≡ 36 → AtOnce (partialsBy pt pr words run))
 
 -- T-04, "else 01 stands": no revolution comes off what the words ask for.
 abbrev pub NoneComesOff : List ℕ → Type 0

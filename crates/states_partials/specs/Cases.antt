@@ -1,4 +1,4 @@
--- The 36 partials of two arcs, evaluated from the definitions: of the lower crate's case, and of one with whole revolutions. The figures come from an independent
+-- The 36 partials of three arcs, evaluated from the definitions: of the lower crate's case, and of two with whole revolutions. The figures come from an independent
 -- program.
 use mathlib.Core.Path.{_≡_, refl}
 use mathlib.Core.List.{[], _∷_}
@@ -6,7 +6,7 @@ use mathlib.Core.Bool.{false}
 use lib.Ieee.{add, sub, mul, div, neg, lt, eq, ofInt, ofBits, toBits}
 use Rattle.bits.specs.Arithmetic.{n0}
 use Rattle.bits.specs.Runs.{firstOf, has}
-use Rattle.series.specs.Series.{beyondOne, reducedFrom, nested, c4Of, c5Of, atReduced, coefficientsOf, sumsOf}
+use Rattle.series.specs.Series.{beyondOne, reducedFrom, nested, c4Of, c5Of, atReduced, doublings, quotientsOf, coefficientsOf, sumsOf}
 use Rattle.search_points.specs.Residual.{radiusOf}
 use Rattle.states_revolutions.specs.Floor.{floorOf}
 use Rattle.states_revolutions.specs.declared.figures.Interval.{Interval}
@@ -15,7 +15,7 @@ use Rattle.states_revolutions.specs.declared.figures.Course.the-variants.{Close
 use Rattle.states_start.specs.declared.figures.Start.{Start}
 use Rattle.states_arcs.specs.Results.{factorsOf, endStateOf, arcOf}
 use Rattle.states_arcs.specs.Cases.{ofWord, vector, arc}
-use Rattle.states_revolutions.specs.Revolutions.{asItIs, withoutTurns, withoutRevolutions, intervalOf}
+use Rattle.states_revolutions.specs.Revolutions.{asItIs, withoutN, withoutRevolutions, intervalOf}
 use Rattle.states_partials.specs.U.{uAtFound, wholeAnomalyOf, wholeSumsOf, uAtWhole, uOf, uRefused}
 use Rattle.states_partials.specs.Matrix.{matrixOf}
 use Rattle.states_partials.specs.Entries.{plusOf, minusOf, partialOf, unitOf, componentOf, entryOf, upTo, entriesOf}
@@ -33,8 +33,8 @@ its-partials :
 unfolding add sub mul div neg ofBits toBits asItIs uAtFound uOf matrixOf plusOf minusOf partialOf unitOf componentOf entryOf upTo entriesOf arc
 its-partials = refl
 
--- T-04: a circle, μ = 1, position (1,0,0), velocity (0,1,0), after three whole revolutions. Nothing is left to search, and ψ is +0. As long as the start is only a little off, the body runs
--- ahead or behind by three times that for each second: the four entries that are not a unit's are −3·τ and 3·τ, with τ = 18.85.
+-- T-04: a circle, μ = 1, position (1,0,0), velocity (0,1,0), after three whole revolutions. Nothing is left to search, and ψ is +0. A start that is
+-- a little off has another period, and the body is ahead or behind by more with each second: the four entries that are not a unit matrix's are −3·τ and 3·τ, with τ = 18.85.
 a-circle : Start
 a-circle =
     record {
@@ -58,5 +58,24 @@ it-comes-round :
     ∷ 0x8000000000000000 ∷ 0x8000000000000000 ∷ 0x8000000000000000 ∷ 0 ∷ 0x3ff0000000000000 ∷ 0
     ∷ 0x8000000000000000 ∷ 0x8000000000000000 ∷ 0x8000000000000000 ∷ 0 ∷ 0 ∷ 0x3ff0000000000000
     ∷ [])
-unfolding add sub mul div neg lt eq ofInt ofBits toBits firstOf has a-circle its-course three-times floorOf asItIs withoutTurns withoutRevolutions intervalOf beyondOne reducedFrom nested c4Of c5Of atReduced coefficientsOf sumsOf radiusOf factorsOf endStateOf arcOf wholeAnomalyOf wholeSumsOf uAtWhole uOf uRefused matrixOf plusOf minusOf partialOf unitOf componentOf entryOf upTo entriesOf
+unfolding add sub mul div neg lt eq ofInt ofBits toBits firstOf has a-circle its-course three-times floorOf asItIs withoutN withoutRevolutions intervalOf beyondOne reducedFrom nested c4Of c5Of atReduced coefficientsOf sumsOf radiusOf factorsOf endStateOf arcOf wholeAnomalyOf wholeSumsOf uAtWhole uOf uRefused matrixOf plusOf minusOf partialOf unitOf componentOf entryOf upTo entriesOf
 it-comes-round = (refl, refl)
+
+-- The lower crate's orbit for 40 s: two revolutions of 18.89 s come off, and at the ψ of what is left no sum is zero.
+two-laps : Interval
+two-laps =
+    intervalOf (Closed (record { period = record { 0 = ofWord 0x4032e30370eec1e0 }; anomaly = record { 0 = ofWord 0x402222c151418bc2 } }))
+    (record { 0 = ofWord 0x4044000000000000 })
+
+it-goes-on :
+    (uRefused (arcOf (arc .start) two-laps (record { 0 = ofWord 0x3ff94047a1472343 })) ≡ false)
+    × (wordsOf (entriesOf (arcOf (arc .start) two-laps (record { 0 = ofWord 0x3ff94047a1472343 })))
+    ≡ 0x4056e242d857ec2b ∷ 0x4037a342364c815f ∷ 0xc046a8d1e7309498 ∷ 0x403349c8c29efb73 ∷ 0x4060ebb025c6463d ∷ 0x4050cc621be2c8a5
+    ∷ 0xc040b7c663375b8d ∷ 0xc01dfbaaa5b12b56 ∷ 0x4031358b11eef7b7 ∷ 0xc016850c30c3a3d2 ∷ 0xc0491972c5ab825b ∷ 0xc03a7331a6808520
+    ∷ 0xc0539d55731ed27e ∷ 0xc0339cc8ebf52cb8 ∷ 0x40439fad97d4ab8d ∷ 0xc02d596fe8d8b0c6 ∷ 0xc05d5a88f72bfc53 ∷ 0xc04c8cb582b1cc07
+    ∷ 0x40190b1942a95f41 ∷ 0x4001e2b1a1751a65 ∷ 0xc0091d770a08bdc0 ∷ 0x400088d2d812854f ∷ 0x4022c03487337cb3 ∷ 0x40116b3700174dd2
+    ∷ 0x40460a3b1af1c573 ∷ 0x402675945d953628 ∷ 0xc0358f4d345c2f19 ∷ 0x402203cca304d1f8 ∷ 0x4050749d850bc64d ∷ 0x4040181508ae7890
+    ∷ 0x40352842ac1fb0d2 ∷ 0x4015befcbf59db59 ∷ 0xc026389353ee2662 ∷ 0x4010906bc58e878e ∷ 0x403ff36364a8ba0d ∷ 0x40304256f771f1ef
+    ∷ [])
+unfolding add sub mul div neg lt eq ofInt ofBits toBits firstOf has arc two-laps floorOf asItIs withoutN withoutRevolutions intervalOf beyondOne reducedFrom nested c4Of c5Of atReduced doublings quotientsOf coefficientsOf sumsOf radiusOf factorsOf endStateOf arcOf wholeAnomalyOf wholeSumsOf uAtWhole uOf uRefused matrixOf plusOf minusOf partialOf unitOf componentOf entryOf upTo entriesOf
+it-goes-on = (refl, refl)

@@ -8,7 +8,7 @@ use series::Anomaly;
 use states_arcs::Arc;
 use states_revolutions::Off;
 
-// The whole anomaly (s/km), revolutions included. What was found is an `Anomaly`: neither stands for the other.
+// The whole anomaly (s/km), revolutions included. The one that was found is of type `Anomaly`: neither stands for the other.
 pub struct WholeAnomaly(pub f64);
 
 // The whole anomaly, and s3, s4 and s5 there, in s/km and its third, fourth and fifth powers.

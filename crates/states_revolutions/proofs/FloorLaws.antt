@@ -1,7 +1,7 @@
 -- What the code finds is the floor, over plain numbers: first of a fraction a/c, then of a double.
 use mathlib.Core.Path.{_≡_, refl, sym, _∙_, ap, subst}
 use mathlib.Core.Bool.{Bool, true, false, cond, _&&_, _||_, true≢false}
-use Prim.Native.Nat.{ℕ, zero, suc, _+_, _-_, _*_, _/_, _^_, _≤_, _<_, min}
+use Prim.Native.Nat.{ℕ, zero, suc, _+_, _-_, _*_, _/_, _^_, _≤_, _<_}
 use native.Mathlib.Nat.{div-mul-le-self, div-lt-iff-lt-mul, le-div-iff-mul-le, lt-div-mul-add, div-eq-of-lt-le, div-eq-of-lt, mul-lt-mul-of-pos-right, mul-le-mul-right, lt-of-mul-lt-mul-right}
 use native.Mathlib.Omega.{arith}
 use native.Mathlib.Decide.{decLe, decLt}
@@ -12,10 +12,8 @@ use lib.Ieee.{Float, nan, inf, fin, binary64, prec, emax, low, up, down, odd, un
 use lib.Ieee.Exact.{HasValue}
 use lib.Ieee.Back.{round-whole}
 use lib.Ieee.Fits.{down-pos, round-is}
-use Rattle.bits.specs.Choice.{pick}
 use Rattle.bits.specs.Arithmetic.{n0}
-use Rattle.states_revolutions.specs.Floor.{floorOfFraction, within, floorOf}
-use Rattle.states_revolutions.specs.declared.figures.Floor.{Floor}
+use Rattle.states_revolutions.specs.Floor.{within, floorOf}
 use Rattle.states_revolutions.specs.declared.figures.Floor.the-variants.{Whole, Beyond}
 
 -- ---- Of a fraction.

@@ -2,12 +2,14 @@
 use mathlib.Core.Path.{_≡_, refl, sym, ap, _∙_, subst}
 use mathlib.Core.Bool.{Bool, true, false}
 use Prim.Native.Nat.{ℕ, zero, suc, _+_, _-_, _*_, _/_, _≤_, _<_, suc-le-suc}
-use native.Mathlib.Nat.{le-of-suc-le-suc, div-mul-le-self, lt-div-mul-add, div-eq-of-lt-le, div-eq-of-lt, mul-le-mul-right}
+use native.Mathlib.Nat.{le-of-suc-le-suc, div-mul-le-self, lt-div-mul-add, div-eq-of-lt-le, div-eq-of-lt}
 use native.Mathlib.Omega.{arith}
 use lib.Dec.{T, ltb, leb, lt→ltb, le→leb, ltb→lt, leb→le}
 use lib.IntN.{ℤ, pos, negsuc, negℤ, sucℤ, _*ℤ_}
-use lib.Signed.{ltZ, leZ, _≤ℤ_, _<ℤ_}
-use Rattle.states_revolutions.specs.Floor.{signed, IsFloor, floorOfFraction}
+use lib.Signed.{ltZ, leZ}
+use lib.Ieee.{fin, up, down}
+use lib.Ieee.Fits.{down-pos}
+use Rattle.states_revolutions.specs.Floor.{IsFloor, floorOfFraction, within, floorOf}
 
 -- ---- Whole numbers that are not above zero, by their sizes.
 abbrev minus : ℕ → ℤ
@@ -98,3 +100,8 @@ one-floor true (suc b) c p (negsuc k) f =
     let h = lt-sizes b (k * c) (subst (λ (n : ℤ). T (ltZ (negsuc b) n)) (ap (λ (n : ℤ). n *ℤ pos c) (next k) ∙ times k c) (f .next-above .lt)) in
     let q : (suc b + (c - 1)) / c ≡ suc k = div-eq-of-lt-le c (omega arith) (omega arith) in
     ap minus (sym q)
+
+-- So of a double: whatever whole number is its floor, `floorOf` answers with it where it is within ±2^40, and else that it is beyond.
+pub floor-of-double : (s : Bool) (m : ℕ) (e n : ℤ) → IsFloor s (m * up e) (down e) n → floorOf (fin s m e) ≡ within n
+unfolding floorOf
+floor-of-double s m e n f = ap within (sym (one-floor s (m * up e) (down e) (down-pos e) n f))

@@ -6,7 +6,7 @@ use Rattle.bits.specs.Choice.{pick}
 use Rattle.bits.specs.Arithmetic.{_⊕_, _⊖_, _⊗_, _⊘_, n0, half}
 use Rattle.series.specs.declared.figures.Anomaly.{Anomaly}
 use Rattle.states_revolutions.specs.Floor.{floorOf}
-use Rattle.states_revolutions.specs.Revolutions.{asItIs, withoutTurns, withoutFloor, withoutRevolutions, intervalOf}
+use Rattle.states_revolutions.specs.Revolutions.{asItIs, withoutN, withoutFloor, withoutRevolutions, intervalOf}
 use Rattle.states_revolutions.specs.declared.figures.WholeInterval.{WholeInterval}
 use Rattle.states_revolutions.specs.declared.figures.Revolution.{Revolution}
 use Rattle.states_revolutions.specs.declared.figures.Interval.{Interval}
@@ -33,9 +33,9 @@ as-it-is : (whole : WholeInterval) → Parted whole (asItIs whole)
 unfolding asItIs
 as-it-is whole = (refl, λ e. refl)
 
-without-turns : (n : Float) (v : Revolution) (whole : WholeInterval) → Parted whole (withoutTurns n v whole)
-unfolding withoutTurns
-without-turns n v whole = go (eq n n0)
+without-n : (n : Float) (v : Revolution) (whole : WholeInterval) → Parted whole (withoutN n v whole)
+unfolding withoutN
+without-n n v whole = go (eq n n0)
   where
     go : (b : Bool) →
         Parted whole
@@ -49,7 +49,7 @@ without-turns n v whole = go (eq n n0)
     go false = (refl, λ e. absurd (some-off _ e))
 
 without-floor : (n : Floor) (v : Revolution) (whole : WholeInterval) → Parted whole (withoutFloor n v whole)
-without-floor (floor.Whole n) v whole = without-turns n v whole
+without-floor (floor.Whole n) v whole = without-n n v whole
 without-floor floor.Beyond v whole = as-it-is whole
 
 parted : (c : Course) (whole : WholeInterval) → Parted whole (intervalOf c whole)

@@ -5,15 +5,13 @@ use mathlib.Core.List.{List, [], _∷_, map}
 use Prim.Native.Nat.{ℕ}
 use lib.Ieee.{Float, nan, inf, binary64, add, sub, mul, div, neg, lt, eq, ofInt, ofBits, toBits}
 use Rattle.bits.specs.Root.{rootWordOf, rootOf}
-use Rattle.search_points.specs.declared.figures.Initial.{Initial}
 use Rattle.states_revolutions.specs.Floor.{floorOf}
-use Rattle.states_revolutions.specs.Revolutions.{revolutionOf, isClosed, isUsable, courseOf, asItIs, withoutTurns, withoutRevolutions, intervalOf}
+use Rattle.states_revolutions.specs.Revolutions.{revolutionOf, isClosed, isUsable, courseOf, asItIs, withoutN, withoutRevolutions, intervalOf}
 use Rattle.states_revolutions.specs.declared.figures.Interval.{Interval}
 use Rattle.states_revolutions.specs.declared.figures.Course.{Course}
 use Rattle.states_revolutions.specs.declared.figures.Course.the-variants.{Closed, Open}
-use Rattle.states_revolutions.specs.declared.figures.Floor.{Floor}
 use Rattle.states_revolutions.specs.declared.figures.Floor.the-variants.{Whole, Beyond}
-use Rattle.states_revolutions.specs.declared.figures.Off.the-variants.{Revolutions, Nothing}
+use Rattle.states_revolutions.specs.declared.figures.Off.the-variants.{Revolutions}
 
 abbrev ofWord : ℕ → Float
 ofWord = ofBits binary64
@@ -26,13 +24,13 @@ unfolding floorOf ofInt ofBits
 floors = refl
 
 -- 2^40, the last double before 2^40 + 1, and −2^40 are within; 2^40 + 1, the next double below −2^40, a NaN and the infinities are beyond.
-within : map (λ (w : ℕ). floorOf (ofWord w)) (0x4270000000000000 ∷ 0x4270000000000fff ∷ 0xc270000000000000 ∷ []) ≡ map (λ (w : ℕ). Whole (ofWord w)) (0x4270000000000000 ∷ 0x4270000000000000 ∷ 0xc270000000000000 ∷ [])
+ends-within : map (λ (w : ℕ). floorOf (ofWord w)) (0x4270000000000000 ∷ 0x4270000000000fff ∷ 0xc270000000000000 ∷ []) ≡ map (λ (w : ℕ). Whole (ofWord w)) (0x4270000000000000 ∷ 0x4270000000000000 ∷ 0xc270000000000000 ∷ [])
 unfolding floorOf ofInt ofBits
-within = refl
+ends-within = refl
 
-beyond : map floorOf (ofWord 0x4270000000001000 ∷ ofWord 0xc270000000000001 ∷ nan ∷ inf true ∷ inf false ∷ []) ≡ Beyond ∷ Beyond ∷ Beyond ∷ Beyond ∷ Beyond ∷ []
+ends-beyond : map floorOf (ofWord 0x4270000000001000 ∷ ofWord 0xc270000000000001 ∷ nan ∷ inf true ∷ inf false ∷ []) ≡ Beyond ∷ Beyond ∷ Beyond ∷ Beyond ∷ Beyond ∷ []
 unfolding floorOf ofInt ofBits
-beyond = refl
+ends-beyond = refl
 
 -- ---- By μ and α. μ = 1 and α = −1: P and Q are 2·π. μ = 0, μ = −1, α = 0 and α = 1 do not close; α = −2^−800, whose P is infinite, and α = −2^800, whose P is zero, cannot be used.
 of : (mu alpha : ℕ) → Course
@@ -52,24 +50,29 @@ not-closed = refl
 on : (whole : ℕ) → Interval
 on whole = intervalOf (Closed (record { period = record { 0 = ofWord 0x4010000000000000 }; anomaly = record { 0 = ofWord 0x4000000000000000 } })) (record { 0 = ofWord whole })
 
-parted : (whole searched off : ℕ) → Interval
-parted whole searched off = record { whole = record { 0 = ofWord whole }; searched = record { 0 = ofWord searched }; off = Revolutions (record { 0 = ofWord off }) }
+an-interval : (whole searched off : ℕ) → Interval
+an-interval whole searched off = record { whole = record { 0 = ofWord whole }; searched = record { 0 = ofWord searched }; off = Revolutions (record { 0 = ofWord off }) }
 
 -- 10 less three times 4; 6 and −6, halfway, less two times and minus one time; 2, halfway, less one; 12 less three; −12 and 3.
 some :
     on 0x4024000000000000 ∷ on 0x4018000000000000 ∷ on 0xc018000000000000 ∷ on 0x4000000000000000 ∷ on 0x4028000000000000 ∷ on 0xc028000000000000 ∷ on 0x4008000000000000 ∷ []
-    ≡ parted 0x4024000000000000 0xc000000000000000 0x4018000000000000 ∷ parted 0x4018000000000000 0xc000000000000000 0x4010000000000000 ∷ parted 0xc018000000000000 0xc000000000000000 0xc000000000000000 ∷ parted 0x4000000000000000 0xc000000000000000 0x4000000000000000 ∷ parted 0x4028000000000000 0 0x4018000000000000 ∷ parted 0xc028000000000000 0 0xc018000000000000 ∷ parted 0x4008000000000000 0xbff0000000000000 0x4000000000000000 ∷ []
-unfolding on parted floorOf asItIs withoutTurns withoutRevolutions intervalOf add sub mul div neg eq ofInt ofBits
+    ≡ an-interval 0x4024000000000000 0xc000000000000000 0x4018000000000000 ∷ an-interval 0x4018000000000000 0xc000000000000000 0x4010000000000000 ∷ an-interval 0xc018000000000000 0xc000000000000000 0xc000000000000000 ∷ an-interval 0x4000000000000000 0xc000000000000000 0x4000000000000000 ∷ an-interval 0x4028000000000000 0 0x4018000000000000 ∷ an-interval 0xc028000000000000 0 0xc018000000000000 ∷ an-interval 0x4008000000000000 0xbff0000000000000 0x4000000000000000 ∷ []
+unfolding on an-interval floorOf asItIs withoutN withoutRevolutions intervalOf add sub mul div neg eq ofInt ofBits
 some = refl
+
+-- The sum is rounded: the double before 2, by 4, and 1/2 are 1 as a double, and one revolution comes off.
+rounded-sum : on 0x3fffffffffffffff ≡ an-interval 0x3fffffffffffffff 0xc000000000000000 0x4000000000000000
+unfolding on an-interval floorOf asItIs withoutN withoutRevolutions intervalOf add sub mul div neg eq ofInt ofBits
+rounded-sum = refl
 
 -- 1 and −2, halfway, keep all; ±2^42 lose ±2^40 revolutions, and a period more keeps all.
 abbrev whole-as-it-is : List ℕ
 whole-as-it-is = 0x3ff0000000000000 ∷ 0xc000000000000000 ∷ 0x4290000000001000 ∷ 0xc290000000001000 ∷ []
 
 none : map on whole-as-it-is ≡ map (λ (w : ℕ). asItIs (record { 0 = ofWord w })) whole-as-it-is
-unfolding on floorOf asItIs withoutTurns withoutRevolutions intervalOf add sub mul div neg eq ofInt ofBits
+unfolding on floorOf asItIs withoutN withoutRevolutions intervalOf add sub mul div neg eq ofInt ofBits
 none = refl
 
-most : on 0x4290000000000000 ∷ on 0xc290000000000000 ∷ [] ≡ parted 0x4290000000000000 0 0x4280000000000000 ∷ parted 0xc290000000000000 0 0xc280000000000000 ∷ []
-unfolding on parted floorOf asItIs withoutTurns withoutRevolutions intervalOf add sub mul div neg eq ofInt ofBits
+most : on 0x4290000000000000 ∷ on 0xc290000000000000 ∷ [] ≡ an-interval 0x4290000000000000 0 0x4280000000000000 ∷ an-interval 0xc290000000000000 0 0xc280000000000000 ∷ []
+unfolding on an-interval floorOf asItIs withoutN withoutRevolutions intervalOf add sub mul div neg eq ofInt ofBits
 most = refl

@@ -44,8 +44,8 @@ unfoldable pub asItIs : WholeInterval → Interval
 asItIs whole = record { whole = whole; searched = record { 0 = whole .0 }; off = off.Nothing }
 
 -- "the search and f, g use τ − n·P"; the revolutions that come off have the anomaly n·Q. "and not 0"
-unfoldable pub withoutTurns : (n : Float) → Revolution → WholeInterval → Interval
-withoutTurns n v whole =
+unfoldable pub withoutN : (n : Float) → Revolution → WholeInterval → Interval
+withoutN n v whole =
     pick (eq n n0) (asItIs whole)
     (record {
       whole = whole;
@@ -55,7 +55,7 @@ withoutTurns n v whole =
 
 -- "n is within ±2^40"
 abbrev pub withoutFloor : Floor → Revolution → WholeInterval → Interval
-withoutFloor (floor.Whole n) v whole = withoutTurns n v whole
+withoutFloor (floor.Whole n) v whole = withoutN n v whole
 withoutFloor floor.Beyond v whole = asItIs whole
 
 -- "n is the floor of the rounded sum τ/P+1/2"

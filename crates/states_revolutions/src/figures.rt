@@ -2,7 +2,7 @@
 use series::Anomaly;
 use series::Seconds;
 
-// The whole interval that a request asks for, revolutions included. What is searched is `Seconds`: neither stands for the other.
+// The whole interval that a request asks for, revolutions included. The part of it that is searched is of type `Seconds`: neither stands for the other.
 pub struct WholeInterval(pub f64);
 
 // One revolution of a closed orbit: P, the time that it takes, and Q, the anomaly that goes by meanwhile.

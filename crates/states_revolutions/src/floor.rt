@@ -6,7 +6,7 @@ ghost use Rattle.bits.specs.Arithmetic.{n0};
 ghost use Rattle.states_revolutions.specs.Floor.{floorOf};
 use super::figures::Floor;
 
-// 2^40, and the next whole number: a floor is within ±2^40 from the one below zero up to this one, which is out.
+// 2^40, and the next whole number: the floor of x is within ±2^40 where -LIMIT <= x < BEYOND.
 const LIMIT: f64 = 1099511627776.0;
 
 const BEYOND: f64 = 1099511627777.0;
@@ -39,7 +39,7 @@ fn floor_below_zero(x: f64) -> Floor
     Floor::Beyond
 }
 
-// The greatest whole number that is not above x.
+// The greatest whole number that is not above x, where it is within ±2^40.
 pub fn floor_of(x: f64) -> Floor
     ensures { λ r. ⌜ r ≡ floorOf x ⌝ }
 {

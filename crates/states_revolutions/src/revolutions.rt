@@ -1,7 +1,6 @@
 // The period of an orbit, and what comes off its intervals.
 ghost use mathlib.Core.Path.{_≡_};
-ghost use lib.Ieee.{Float};
-ghost use Rattle.states_revolutions.specs.Revolutions.{revolutionOf, isClosed, isUsable, courseOf, asItIs, withoutTurns, withoutRevolutions, intervalOf};
+ghost use Rattle.states_revolutions.specs.Revolutions.{revolutionOf, isClosed, isUsable, courseOf, asItIs, withoutN, withoutRevolutions, intervalOf};
 use super::figures::Course;
 use super::figures::Floor;
 use super::figures::Interval;
@@ -20,11 +19,11 @@ const PI: f64 = 3.141592653589793;
 fn revolution_of(initial: Initial) -> Revolution
     ensures { λ r. ⌜ r ≡ revolutionOf initial ⌝ }
 {
-    let root = bits::root::root_of_figure(-initial.alpha);
-    let speed = root.figure;
+    let found = bits::root::root_of_figure(-initial.alpha);
+    let root = found.figure;
     Revolution {
-        period: Seconds(((2.0 * PI) * initial.mu) / ((-initial.alpha) * speed)),
-        anomaly: Anomaly((2.0 * PI) / speed),
+        period: Seconds(((2.0 * PI) * initial.mu) / ((-initial.alpha) * root)),
+        anomaly: Anomaly((2.0 * PI) / root),
     }
 }
 
@@ -68,8 +67,8 @@ fn as_it_is(whole: WholeInterval) -> Interval
 }
 
 // An interval without n revolutions.
-fn without_turns(n: f64, revolution: Revolution, whole: WholeInterval) -> Interval
-    ensures { λ r. ⌜ r ≡ withoutTurns n revolution whole ⌝ }
+fn without_n(n: f64, revolution: Revolution, whole: WholeInterval) -> Interval
+    ensures { λ r. ⌜ r ≡ withoutN n revolution whole ⌝ }
 {
     if n == 0.0 {
         return as_it_is(whole);
@@ -86,7 +85,7 @@ fn without_revolutions(revolution: Revolution, whole: WholeInterval) -> Interval
     ensures { λ r. ⌜ r ≡ withoutRevolutions revolution whole ⌝ }
 {
     match floor_of(whole.0 / revolution.period.0 + 0.5) {
-        Floor::Whole(n) => without_turns(n, revolution, whole),
+        Floor::Whole(n) => without_n(n, revolution, whole),
         Floor::Beyond => as_it_is(whole),
     }
 }

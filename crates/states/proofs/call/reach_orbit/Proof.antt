@@ -2,7 +2,7 @@
 use mathlib.Core.Path.{sym, _∙_, ap}
 use borrow.Author.Needs.{needs}
 use Rattle.states_start.specs.declared.figures.Begun.{Begun}
-use Rattle.states.specs.Call.{reachedOrbit, reachedBegun, reachedOrbitBy}
+use Rattle.states.specs.Call.{reachedBegun, reachedOrbitBy}
 use Rattle.states.proofs.call.reach_orbit.Statement.{statement}
 use Rattle.states.proofs.call.reach_orbit.Tie as tie
 

@@ -1,8 +1,7 @@
 -- The test of the code is that of the definition, at the H that its function ensures; where it is finite, what the search found leads on.
-use mathlib.Core.Path.{_≡_, sym, _∙_, ap}
+use mathlib.Core.Path.{_≡_}
 use mathlib.Core.Bool.{Bool, true, false, not}
 use borrow.Author.Needs.{needs}
-use Rattle.bits.specs.Choice.{pick}
 use Rattle.bits.specs.Arithmetic.{isFinite}
 use Rattle.series.specs.declared.figures.Anomaly.{Anomaly}
 use Rattle.search_proposals.specs.Proposals.{threeProposals}

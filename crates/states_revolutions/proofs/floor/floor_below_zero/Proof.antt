@@ -1,6 +1,6 @@
 -- Where the size is at most 2^40, its whole part, or one more, is a double exactly, and with a minus the floor; else the floor is beyond.
 use mathlib.Core.Path.{_≡_, sym, _∙_, ap}
-use mathlib.Core.Bool.{Bool, true, false}
+use mathlib.Core.Bool.{true, false}
 use Prim.Native.Nat.{ℕ, _+_}
 use native.Mathlib.Omega.{arith}
 use lib.IntN.{pos}

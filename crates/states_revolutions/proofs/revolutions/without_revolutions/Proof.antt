@@ -12,8 +12,8 @@ floor-of-requires c κs = search needs
 enum-known-n : tie.Need-enum-known-n
 enum-known-n c = search needs
 
-without-turns-requires : tie.Need-without-turns-requires
-without-turns-requires c κs = search needs
+without-n-requires : tie.Need-without-n-requires
+without-n-requires c κs = search needs
 
 enum-told : tie.Need-enum-told
 enum-told c = search needs
@@ -26,7 +26,7 @@ unfolding withoutRevolutions
 returns c =
     let f = c .before .before .before .before in
     let a = f .before .before .before .args in
-    c .without-turns .ensures ∙ ap (λ (n : Floor). withoutFloor n (a .revolution) (a .whole)) (sym (c .before .before .n .given .1) ∙ f .floor-of .ensures)
+    c .without-n .ensures ∙ ap (λ (n : Floor). withoutFloor n (a .revolution) (a .whole)) (sym (c .before .before .n .given .1) ∙ f .floor-of .ensures)
 
 returns-2 : tie.Need-returns-2
 unfolding withoutRevolutions
@@ -41,7 +41,7 @@ without-revolutions-spec =
     (tie.spec
     floor-of-requires
     enum-known-n
-    without-turns-requires
+    without-n-requires
     enum-told
     as-it-is-requires
     returns

@@ -4,17 +4,17 @@ use mathlib.Core.Bool.{true, false}
 use borrow.Author.Needs.{needs}
 use lib.Ieee.{Float, eq}
 use Rattle.bits.specs.Arithmetic.{_⊖_, _⊗_, n0}
-use Rattle.states_revolutions.specs.Revolutions.{asItIs, withoutTurns}
+use Rattle.states_revolutions.specs.Revolutions.{asItIs, withoutN}
 use Rattle.states_revolutions.specs.declared.figures.WholeInterval.{WholeInterval}
 use Rattle.states_revolutions.specs.declared.figures.Revolution.{Revolution}
 use Rattle.states_revolutions.specs.declared.figures.Interval.{Interval}
 use Rattle.states_revolutions.specs.declared.figures.Off.the-variants.{Revolutions}
-use Rattle.states_revolutions.proofs.revolutions.without_turns.Statement.{statement}
-use Rattle.states_revolutions.proofs.revolutions.without_turns.Tie as tie
+use Rattle.states_revolutions.proofs.revolutions.without_n.Statement.{statement}
+use Rattle.states_revolutions.proofs.revolutions.without_n.Tie as tie
 
 module _ (n : Float) (v : Revolution) (whole : WholeInterval) where
-  none : eq n n0 ≡ true → {d : Interval} → d ≡ asItIs whole → d ≡ withoutTurns n v whole
-  unfolding withoutTurns
+  none : eq n n0 ≡ true → {d : Interval} → d ≡ asItIs whole → d ≡ withoutN n v whole
+  unfolding withoutN
   none z e = rw z e
 
   some : eq n n0 ≡ false →
@@ -23,8 +23,8 @@ module _ (n : Float) (v : Revolution) (whole : WholeInterval) where
         searched = record { 0 = whole .0 ⊖ n ⊗ v .period .0 };
         off = Revolutions (record { 0 = n ⊗ v .anomaly .0 });
       }
-      ≡ withoutTurns n v whole
-  unfolding withoutTurns
+      ≡ withoutN n v whole
+  unfolding withoutN
   some z = rw z
 
 as-it-is-requires : tie.Need-as-it-is-requires
@@ -36,5 +36,5 @@ returns c = none _ _ _ (c .before .if1 .taken) (c .as-it-is .ensures)
 returns-2 : tie.Need-returns-2
 returns-2 c = some _ _ _ (c .before .before .before .if1 .left)
 
-pub without-turns-spec : {M : Type 1} → statement M
-without-turns-spec = tie.close (tie.spec as-it-is-requires returns returns-2)
+pub without-n-spec : {M : Type 1} → statement M
+without-n-spec = tie.close (tie.spec as-it-is-requires returns returns-2)
