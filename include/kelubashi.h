@@ -120,9 +120,9 @@ uint64_t kelubashi1_root(uint64_t word, uint64_t *answer, size_t n);
 **     answer    refusal, points, position, velocity, acceleration at the end and at the start, and
 **               the anomaly psi, in the order of the constants above, which have the units
 **
-**  On an orbit that closes, whole revolutions come off tau before psi is looked for, up to 2^40 of them
-**  either way, so that about half a period is left at most. psi is the anomaly of that, without those
-**  revolutions; position, velocity and accelerations are those at the end of the whole tau.
+**  On an orbit that closes, whole revolutions come off tau before psi is looked for, so that about half a
+**  period is left at most; of more than 2^40 of them, either way, none comes off. psi is the anomaly of
+**  what is left; position, velocity and accelerations are those at the end of the whole tau.
 **
 **  psi has the sign of what is left of tau, even as a zero (-0 below zero); where nothing is left it is
 **  +0. Either the computed time at psi is what is left, or psi is one of two neighbouring doubles: at the

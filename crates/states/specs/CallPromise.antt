@@ -101,7 +101,7 @@ CountsPoints =
     let used = length (triedBy (pr i tau) i tau (firstPlace (s .start) tau)) in
     (propagateBy pt pr words .points ≡ used) × ((run : List ℕ) → length run ≡ 36 → partialsBy pt pr words run .points ≡ used)
 
--- What is searched is finite: where nothing else is refused, refusal 4 by H is.
+-- What is searched is finite: an interval that is not has no finite H, and is refused by 4.
 abbrev pub SearchesFinite : Type 0
 SearchesFinite = (pt : Parting) (words : List ℕ) (s : Searches pt words) → isFinite (searchedIn s .0) ≡ true
 
