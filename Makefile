@@ -195,7 +195,7 @@ commanded: machine command build/tests/kelubashi_faulty build/tests/second_resul
 
 SECOND = $(patsubst %,build/tests/second/%.o,root series revolutions search states files summary)
 TRACED = $(SECOND:build/tests/second/%=build/tests/traced/%)
-SELFTEST = $(patsubst %,build/tests/second/selftest%.o,_root _calls _search _revolutions _turns _orbits _files _summary _changes _refused)
+SELFTEST = $(patsubst %,build/tests/second/selftest%.o,_root _calls _search _revolutions _turns _orbits _files _summary _changes _refused _bad _rows)
 HEADERS = $(wildcard include/*.h command/*.h command/parts/*.h tests/*.h tests/second/*.h)
 
 # The command: plain C99 and POSIX, with no warning of conversions either.

@@ -143,7 +143,17 @@ static uint64_t refused(uint64_t number, uint64_t points, uint64_t *answer)
     return number;
 }
 
-/* The call from refusal 2 on; no partials are asked for where the run is null, and no turns come off where turns is 0. */
+/* 31 to 38 by the first of the eight that is not finite, where one is. */
+static uint64_t bad_figure(const double *eight)
+{
+    uint64_t number = 31;
+
+    while (isfinite(*eight))
+        eight++, number++;
+    return number;
+}
+
+/* The call from refusal 31 on; no partials are asked for where the run is null, and no turns come off where turns is 0. */
 static inline uint64_t call(const uint64_t *words, int turns, uint64_t *answer, uint64_t *run)
 {
     double eight[8], figures[13], partials[36];
@@ -156,7 +166,7 @@ static inline uint64_t call(const uint64_t *words, int turns, uint64_t *answer, 
 
     memcpy(eight, words, sizeof eight);
     if (!all_finite(eight, 8))
-        return refused(2, 0, answer);
+        return refused(bad_figure(eight), 0, answer);
     number = begin(eight, turns, &o);
     if (number != 0)
         return refused(number, 0, answer);

@@ -28,13 +28,13 @@ static void show_states(const struct element_file *elements)
     printf("\n%6s %6s %15s   %15s %15s %15s   %13s %13s %13s\n", "state", "centre", "epoch s", "x km", "y km", "z km",
            "vx km/s", "vy km/s", "vz km/s");
     for (k = 0; k < state_count(elements); k++) {
-        printf("%6lu %6" PRIu64, (unsigned long)k, state_word(elements, k, 0));
-        put_figure(15, 3, kelubashi_figure(state_word(elements, k, 1)));
+        printf("%6lu %6" PRIu64, (unsigned long)k, state_word(elements, k, STATE_CENTRE));
+        put_figure(15, 3, kelubashi_figure(state_word(elements, k, STATE_EPOCH)));
         printf("  ");
-        for (i = 2; i < 5; i++)
+        for (i = STATE_X; i < STATE_VX; i++)
             put_figure(15, 6, kelubashi_figure(state_word(elements, k, i)));
         printf("  ");
-        for (i = 5; i < 8; i++)
+        for (i = STATE_VX; i < KELUBASHI_STATE; i++)
             put_figure(13, 9, kelubashi_figure(state_word(elements, k, i)));
         printf("\n");
     }
@@ -47,7 +47,7 @@ static void show_requests(const struct element_file *elements)
     printf("\n%7s %6s %15s %15s\n", "request", "state", "time s", "after epoch s");
     for (k = 0; k < request_count(elements); k++) {
         printf("%7lu %6lu", (unsigned long)k, (unsigned long)state_of(elements, k));
-        put_figure(15, 3, kelubashi_figure(request_word(elements, k, 1)));
+        put_figure(15, 3, kelubashi_figure(request_word(elements, k, REQUEST_TIME)));
         put_figure(15, 3, interval_of(elements, k));
         printf("\n");
     }

@@ -3,11 +3,24 @@
 */
 #include "command.h"
 #include "parts/element_file.h"
+#include "parts/origin.h"
 #include "parts/output.h"
 #include "parts/result_file.h"
 #include "parts/say.h"
 
 enum { TOLD = 20 };     /* so many refused requests are told one by one */
+
+/* A refused request, with what is at fault in the file where that is one figure. */
+static void say_refused_request(const struct element_file *elements, size_t request, uint64_t number)
+{
+    unsigned long state = (unsigned long)state_of(elements, request);
+    char origin[ORIGIN_TEXT];
+
+    if (describe_origin(elements, request, number, origin, sizeof origin))
+        say_refused(number, "%s: request %lu, of state %lu: %s:", elements->name, (unsigned long)request, state, origin);
+    else
+        say_refused(number, "%s: request %lu, of state %lu:", elements->name, (unsigned long)request, state);
+}
 
 /* A line for each refused request, and one for those beyond the twentieth. */
 static void say_refused_requests(const struct element_file *elements, const struct result_file *results, size_t refused)
@@ -18,8 +31,7 @@ static void say_refused_requests(const struct element_file *elements, const stru
         uint64_t number = row_word(results, request, KELUBASHI_REFUSAL);
 
         if (number != 0) {
-            say_refused(number, "%s: request %lu, of state %lu:", elements->name, (unsigned long)request,
-                        (unsigned long)state_of(elements, request));
+            say_refused_request(elements, request, number);
             told++;
         }
     }

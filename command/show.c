@@ -4,6 +4,7 @@
 #include "command.h"
 #include "parts/element_file.h"
 #include "parts/figures.h"
+#include "parts/origin.h"
 #include "parts/result_file.h"
 #include "parts/say.h"
 
@@ -29,6 +30,16 @@ static void show_figures(const struct result_file *results, size_t row)
     printf(" %6" PRIu64 "\n", row_word(results, row, KELUBASHI_POINTS));
 }
 
+static void show_refusal(const struct element_file *elements, size_t row, uint64_t refusal)
+{
+    char origin[ORIGIN_TEXT];
+
+    printf(" refused (%" PRIu64 "): %s", refusal, kelubashi_refusal_text(refusal));
+    if (describe_origin(elements, row, refusal, origin, sizeof origin))
+        printf(": %s", origin);
+    printf("\n");
+}
+
 static void show_row(const struct element_file *elements, const struct result_file *results, size_t row)
 {
     uint64_t refusal = row_word(results, row, KELUBASHI_REFUSAL);
@@ -37,7 +48,7 @@ static void show_row(const struct element_file *elements, const struct result_fi
     if (refusal == 0)
         show_figures(results, row);
     else
-        printf(" refused (%" PRIu64 "): %s\n", refusal, kelubashi_refusal_text(refusal));
+        show_refusal(elements, row, refusal);
 }
 
 /* The table; where only trouble is wanted, the refused requests alone. */

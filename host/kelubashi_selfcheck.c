@@ -154,7 +154,7 @@ static const struct orbit {
     uint64_t right[KELUBASHI_ANSWER];   /* the first is the status too */
 } ORBITS[] = {
     { "P6", { 0, 0, 0, 0, 0, 0, 0, 0 }, { 3, 0, 0, 0, 0, 0, 0, 0, 0, 0, 0, 0, 0, 0, 0 } },
-    { "P7", { 0, W(7FF8000000000000), 0, 0, 0, 0, 0, 0 }, { 2, 0, 0, 0, 0, 0, 0, 0, 0, 0, 0, 0, 0, 0, 0 } },
+    { "P7", { 0, W(7FF8000000000000), 0, 0, 0, 0, 0, 0 }, { 32, 0, 0, 0, 0, 0, 0, 0, 0, 0, 0, 0, 0, 0, 0 } },
     { "P8", { 0, W(1A70000000000000), 0, 0, 0, 0, 0, 0 }, { 3, 0, 0, 0, 0, 0, 0, 0, 0, 0, 0, 0, 0, 0, 0 } },
     { "P9", { 0, W(6570000000000000), 0, 0, 0, 0, 0, 0 }, { 4, 0, 0, 0, 0, 0, 0, 0, 0, 0, 0, 0, 0, 0, 0 } },
     { "P10", { 0, W(3FF0000000000000), 0, 0, 0, 0, 0, W(3FF0000000000000) },
@@ -235,9 +235,30 @@ static const char *orbit(const struct orbit *at)
     return astray(at->name, NAMES, answer, at->right, KELUBASHI_ANSWER, KELUBASHI_X);
 }
 
-/* ---- the partials of the low Earth orbit, and none where the run is a word short ---- */
-
 static const struct orbit *const LOW_ORBIT = &ORBITS[7];
+
+/* ---- the same with NaNs from one of the eight on: that one is told ---- */
+
+#define NAN_WORD W(7FF8000000000000)
+
+static const char *const NANS[8] = {
+    "NaNs from mu on", "NaNs from x on", "NaNs from y on", "NaNs from z on",
+    "NaNs from vx on", "NaNs from vy on", "NaNs from vz on", "a NaN for tau"
+};
+
+static const char *figure(int first)
+{
+    struct orbit bad = { NULL, { 0 }, { 0 } };
+    int i;
+
+    bad.name = NANS[first];
+    for (i = 0; i < 8; i++)
+        bad.given[i] = i < first ? LOW_ORBIT->given[i] : NAN_WORD;
+    bad.right[KELUBASHI_REFUSAL] = (uint64_t)(31 + first);
+    return orbit(&bad);
+}
+
+/* ---- the partials of the low Earth orbit, and none where the run is a word short ---- */
 
 static const uint64_t PARTIALS[KELUBASHI_PARTIALS] = {
     W(3FEA1E0A265B5CAE), W(BF70E20D50E051D8), W(BF7E24326AD10E00), W(40819BFE59373DDD), W(3FD0B964DE170850), W(C0244AEDF96F6A9E),
@@ -395,7 +416,6 @@ static const char *files(void)
 
 enum { CENTRES = 2, LISTED = CENTRES * KELUBASHI_ENTRY, LOOKED_AT = 4 };    /* records that are looked at */
 
-#define NAN_WORD W(7FF8000000000000)
 #define MINUS_INFINITY W(FFF0000000000000)
 
 enum { AT_ZERO, AT_NAN, AT_MINUS_INFINITY, NO_CENTRE };
@@ -517,6 +537,8 @@ const char *kelubashi_selfcheck(void)
         wrong = root(&ROOTS[i]);
     for (i = 0; wrong == NULL && i < sizeof ORBITS / sizeof ORBITS[0]; i++)
         wrong = orbit(&ORBITS[i]);
+    for (i = 0; wrong == NULL && i < 8; i++)
+        wrong = figure((int)i);
     if (wrong == NULL)
         wrong = partials(KELUBASHI_PARTIALS, 0);
     if (wrong == NULL)

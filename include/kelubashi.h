@@ -129,7 +129,9 @@ uint64_t kelubashi1_root(uint64_t word, uint64_t *answer, size_t n);
 **  one nearer to zero the time is short of it, and at the other past it. psi is then the one with the
 **  smaller error in time; if the errors are equal in size, or both infinite, it is the one nearer to zero.
 **
-**  Refusals: 2 to 8, 60. "Too large" of 4 is said of distance, speed, energy and the first step.
+**  Refusals: the first that applies in the order 60, 31 to 38, 3 to 8. 31 to 38 tell which of the eight is
+**  infinite or a NaN: the first in the order mu, x, y, z, vx, vy, vz, tau. "Too large" of 4 is said of
+**  distance, speed, energy and the first step.
 */
 KELUBASHI_STATUS
 uint64_t kelubashi1_propagate(uint64_t mu, uint64_t x, uint64_t y, uint64_t z,
@@ -154,8 +156,8 @@ uint64_t kelubashi1_propagate(uint64_t mu, uint64_t x, uint64_t y, uint64_t z,
 **                  of position      1  (km by km)      s  (km by km/s)
 **                  of velocity      1/s (km/s by km)   1  (km/s by km/s)
 **
-**  Refusals: 1 to 8, 60. Under 1 no point is tried. 8 speaks of the partials too: where they alone are
-**  at fault, kelubashi1_propagate answers.
+**  Refusals: the first that applies in the order 60, 1, 31 to 38, 3 to 8. Under 1 no point is tried. 8
+**  speaks of the partials too: where they alone are at fault, kelubashi1_propagate answers.
 */
 KELUBASHI_STATUS
 uint64_t kelubashi1_partials(uint64_t mu, uint64_t x, uint64_t y, uint64_t z,
@@ -183,8 +185,8 @@ uint64_t kelubashi1_partials(uint64_t mu, uint64_t x, uint64_t y, uint64_t z,
 **     edition       1
 **     rows          their count, that of the requests; for each 11 words, as the first 11 of a
 **                   state's answer above:
-**                      refusal (2 to 8) or 0, points, *position (3), *velocity (3), *acceleration at
-**                      the end (3)
+**                      refusal (31 to 38, 3 to 8) or 0, points, *position (3), *velocity (3),
+**                      *acceleration at the end (3)
 **
 **  The result file of a refused element file is 24 bytes: 1, 0, and the number of the refusal.
 */
@@ -488,8 +490,6 @@ static inline const struct kelubashi_refusal *kelubashi_refusal_of(uint64_t numb
     static const struct kelubashi_refusal table[] = {
         { 1, "the run for the partials is not 36 words long",
              "lend 36 words, and give 36 as their count" },
-        { 2, "one of the eight figures is infinite or a NaN",
-             "look at how that figure came about" },
         { 3, "the position is the centre's, or so near that its square is zero",
              "check x, y and z: they are seen from the centre, in km" },
         { 4, "a figure of the start is too large for a double",
@@ -518,6 +518,22 @@ static inline const struct kelubashi_refusal *kelubashi_refusal_of(uint64_t numb
               "lend as many bytes as the answer says, and call again" },
         { 27, "a run is not whole records; or of a run of states: not 500, more than 500 in use, or not one to append",
               "give words as the count: 8 for each state, 2 for each request, 4,000 for a run of states, 8 for one to append" },
+        { 31, "mu is infinite or a NaN",
+              "look at how mu came about; a request has it from its state's centre" },
+        { 32, "x is infinite or a NaN",
+              "look at how x came about; a request has it from its state" },
+        { 33, "y is infinite or a NaN",
+              "look at how y came about; a request has it from its state" },
+        { 34, "z is infinite or a NaN",
+              "look at how z came about; a request has it from its state" },
+        { 35, "vx is infinite or a NaN",
+              "look at how vx came about; a request has it from its state" },
+        { 36, "vy is infinite or a NaN",
+              "look at how vy came about; a request has it from its state" },
+        { 37, "vz is infinite or a NaN",
+              "look at how vz came about; a request has it from its state" },
+        { 38, "tau is infinite or a NaN",
+              "look at how tau came about; a request's is its time less its state's epoch" },
         { 41, "the list does not have one entry for each centre",
               "lend 4 words for each centre, and give as many as their count" },
         { 42, "500 states are in use already, or the state to withdraw is not in use",

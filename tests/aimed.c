@@ -1,4 +1,4 @@
-/* Words of any bits, and aims at refusals 2 to 4. */
+/* Words of any bits, and aims at refusals 31 to 38, 3 and 4. */
 #include "aimed.h"
 
 #include "drive.h"
@@ -76,19 +76,25 @@ void one_word(uint64_t *words)
     words[place] = any_word();
 }
 
-/* Refusal 2, and that it comes before 3 and 4. */
+/* An infinity, or a NaN of any bits. */
+static uint64_t any_not_finite(void)
+{
+    uint64_t digits = one_in(2) ? 0 : one_in(2) ? UNIT / 2 : any_below(UNIT);
+
+    return any_below(2) * SIGN | INFINITE | digits;
+}
+
+/* Refusals 31 to 38, by one figure or by the first of two, and that they come before 3 and 4. */
 void not_finite(uint64_t *words)
 {
+    static void (*const otherwise[])(uint64_t *words) = { plain, any_scales, small_sum, large_figures, any_words };
     int count;
 
-    if (one_in(2))
-        plain(words);
-    else
-        any_words(words);
+    otherwise[any_below(sizeof otherwise / sizeof otherwise[0])](words);
     for (count = any_from(1, 2); count > 0; count--) {
-        uint64_t digits = one_in(2) ? 0 : one_in(2) ? UNIT / 2 : any_below(UNIT);
-        uint64_t sign = any_below(2) * SIGN;
-        words[any_below(EIGHT)] = sign | INFINITE | digits;
+        uint64_t place = any_below(EIGHT);
+
+        words[place] = any_not_finite();
     }
 }
 

@@ -11,6 +11,7 @@
 #define STEP (UINT64_C(1) << 52)
 
 enum aim {
+    BAD_ALONE, BAD_PAIR,
     SUM, SIGMA, SPEED, PULL, ALPHA, INTERVAL,
     EVEN_SUM, ODD_SUM, FEW_DIGITS,
     SUBNORMAL_H, H_AT_ZERO, ALPHA_ZERO,
@@ -30,6 +31,7 @@ enum aim {
 };
 
 static const char *const names[AIMS] = {
+    "the rarest of the eight alone not finite", "the rarest two of them not finite",
     "4 by the sum alone", "4 by sigma0 alone", "4 by v squared", "4 by (2 mu)/r0", "4 by alpha alone", "4 by H alone",
     "subnormal sum of an even power", "subnormal sum of an odd power", "subnormal sum of eight binary digits or fewer",
     "subnormal H", "H at place 0", "alpha zero",
@@ -51,6 +53,37 @@ static const char *const names[AIMS] = {
 };
 
 static uint64_t seen[AIMS];
+static uint64_t alone[EIGHT], together[EIGHT][EIGHT];     /* how often one figure, or two, were not finite */
+
+/* Which of the eight are not finite, where one or two are. */
+static void see_bad(const double *e)
+{
+    int i, first = 0, last = 0, count = 0;
+
+    for (i = 0; i < EIGHT; i++)
+        if (!sec_finite(e[i])) {
+            first = count++ == 0 ? i : first;
+            last = i;
+        }
+    alone[first] += count == 1;
+    together[first][last] += count == 2;
+}
+
+/* The counts of the rarest. */
+static void settle_bad(void)
+{
+    int i, j;
+
+    seen[BAD_ALONE] = alone[0];
+    seen[BAD_PAIR] = together[0][1];
+    for (i = 0; i < EIGHT; i++) {
+        if (alone[i] < seen[BAD_ALONE])
+            seen[BAD_ALONE] = alone[i];
+        for (j = i + 1; j < EIGHT; j++)
+            if (together[i][j] < seen[BAD_PAIR])
+                seen[BAD_PAIR] = together[i][j];
+    }
+}
 
 /* The number whose root is r0. */
 static double sum_of(const double *e)
@@ -298,6 +331,7 @@ void aims_see(const uint64_t *words, uint64_t propagated, uint64_t with_partials
 
     for (i = 0; i < EIGHT; i++)
         e[i] = figure_at(words, i);
+    see_bad(e);
     if (propagated == 4)
         see_four(e);
     if (sec_start(e, &s) != 0)
@@ -320,6 +354,7 @@ int aims_tell(void)
 {
     int i, missed = 0;
 
+    settle_bad();
     printf("  aims hit:");
     for (i = 0; i < AIMS; i++) {
         printf("%s %s %" PRIu64, i ? "," : "", names[i], seen[i]);

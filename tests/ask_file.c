@@ -7,7 +7,9 @@
 
 #include <string.h>
 
-static uint64_t read_seen[64], write_seen[64], results_seen[64];
+#define ROW 11     /* words of a row */
+
+static uint64_t read_seen[64], write_seen[64], results_seen[64], rows_seen[256];
 static struct file again, lent_to_library, lent_to_second;
 static struct sections taken;
 
@@ -45,6 +47,15 @@ static void compare_read(const struct file *f)
 
 /* ---- results ---- */
 
+/* The numbers in the rows of a result file; that of a refused file has none. */
+static void see_rows(const uint8_t *file, size_t length)
+{
+    size_t place;
+
+    for (place = 16; length != 24 && place < length; place += 8 * ROW)
+        rows_seen[file[place]]++;     /* their lowest byte */
+}
+
 static void compare_results_in(const char *what, size_t length, size_t room)
 {
     lend_both(room);
@@ -54,6 +65,8 @@ static void compare_results_in(const char *what, size_t length, size_t room)
                                    second.answer + 1, WRITTEN);
     compare(what, WRITTEN);
     results_seen[second.status]++;
+    if (second.status == 0)
+        see_rows(second.room + EDGE, second.answer[2]);
 }
 
 /* The room needed is told by the call itself, when there is none. */
@@ -165,8 +178,10 @@ void ask_sections(const char *family, const struct sections *s)
 int ask_file_tell(void)
 {
     static const int reads[] = { 0, 21, 22, 23, 24, 25 }, writes[] = { 0, 23, 24, 26, 27 }, results[] = { 0, 26 };
+    static const int rows[] = { 0, 31, 32, 33, 34, 35, 36, 37, 38, 3, 4 };
     int missed = numbers_tell("read", read_seen, reads, sizeof reads / sizeof reads[0]);
 
     missed += numbers_tell("write", write_seen, writes, sizeof writes / sizeof writes[0]);
-    return missed + numbers_tell("results", results_seen, results, sizeof results / sizeof results[0]);
+    missed += numbers_tell("results", results_seen, results, sizeof results / sizeof results[0]);
+    return missed + numbers_tell("rows", rows_seen, rows, sizeof rows / sizeof rows[0]);
 }

@@ -22,7 +22,7 @@ struct given {
 };
 
 static const char *its_family;
-static uint64_t plain_seen[10], partials_seen[10];
+static uint64_t plain_seen[64], partials_seen[64];     /* by the refusal's number */
 
 /* No two words alike, so that a word that moves is seen too; another mark for each program. */
 static void lend(struct given *g, uint64_t mark)
@@ -189,22 +189,11 @@ struct asked ask_state(const char *family, const uint64_t *words, uint64_t numbe
     return asked;
 }
 
-static int tell_refusals(const char *what, const uint64_t *seen, int first)
-{
-    int i, missed = seen[0] == 0;
-
-    printf("  refusals of %s: 0 %" PRIu64, what, seen[0]);
-    for (i = first; i <= 8; i++) {
-        printf(", %d %" PRIu64, i, seen[i]);
-        missed += seen[i] == 0;
-    }
-    printf("\n");
-    return missed;
-}
-
 int ask_state_tell(void)
 {
-    int missed = tell_refusals("propagate", plain_seen, 2);
+    static const int numbers[] = { 1, 0, 31, 32, 33, 34, 35, 36, 37, 38, 3, 4, 5, 6, 7, 8 };
+    size_t count = sizeof numbers / sizeof numbers[0];
+    int missed = numbers_tell("propagate", plain_seen, numbers + 1, count - 1);     /* which never gives 1 */
 
-    return missed + tell_refusals("partials", partials_seen, 1);
+    return missed + numbers_tell("partials", partials_seen, numbers, count);
 }

@@ -1,16 +1,18 @@
 /*
 **  Cases of documents 01 and 02 through the C face: P6 to P12, both zeros of tau, the nearer end (T-01),
-**  whole revolutions (T-04), and runs of other lengths.
+**  whole revolutions (T-04), each figure that is not finite (T-05), and runs of other lengths.
 **
 **  What is expected comes from the documents alone: marked cases, and formulas worked out by hand where
 **  every step is exact. Words are taken by the header's names, so these are tried too.
 */
 #include "kelubashi.h"
 
+#include <float.h>
 #include <inttypes.h>
 #include <math.h>
 #include <stdio.h>
 #include <stdlib.h>
+#include <string.h>
 
 #define LENT UINT64_C(0x5EED5EED5EED5EED)     /* what a lent word holds before a call */
 #define ROOM 40                               /* words of a test's memory: a run and its neighbours */
@@ -32,7 +34,7 @@ struct sample {
 
 static const struct sample SAMPLES[] = {
     { "P6", { 0, 0, 0, 0, 0, 0, 0, 0 }, { [KELUBASHI_REFUSAL] = 3 }, 0, 0 },
-    { "P7", { 0, NAN, 0, 0, 0, 0, 0, 0 }, { [KELUBASHI_REFUSAL] = 2 }, 0, 0 },
+    { "P7", { 0, NAN, 0, 0, 0, 0, 0, 0 }, { [KELUBASHI_REFUSAL] = 32 }, 0, 0 },
     { "P8", { 0, 0x1p-600, 0, 0, 0, 0, 0, 0 }, { [KELUBASHI_REFUSAL] = 3 }, 0, 0 },
     { "P9", { 0, 0x1p600, 0, 0, 0, 0, 0, 0 }, { [KELUBASHI_REFUSAL] = 4 }, 0, 0 },
     { "P10", { 0, 1, 0, 0, 0, 0, 0, 1 },
@@ -282,6 +284,58 @@ static void too_many(void)
     }
 }
 
+/*
+**  T-05. Each of the eight alone, and every two of them, as an infinity and as a NaN of either sign, in words that would be
+**  answered, or refused by 3 or by 4: the first is told.
+*/
+static const struct {
+    const char *name;
+    double refusal;
+} FIGURES[8] = {
+    { "T-05, mu", 31 }, { "T-05, x", 32 }, { "T-05, y", 33 }, { "T-05, z", 34 },
+    { "T-05, vx", 35 }, { "T-05, vy", 36 }, { "T-05, vz", 37 }, { "T-05, tau", 38 }
+};
+
+static void not_finite(void)
+{
+    static const double otherwise[][8] = { { 2197, 3, 4, 12, 5, 6, 7, 1 }, { 0, 0, 0, 0, 0, 0, 0, 0 }, { 0, 0x1p600, 0, 0, 0, 0, 0, 0 } };
+    const double bad[] = { NAN, -NAN, INFINITY, -INFINITY };
+    static struct sample one;
+    size_t first, last, i;
+
+    sample = &one;
+    for (first = 0; first < 8; first++)
+        for (last = first; last < 8; last++)
+            for (i = 0; i < 3 * 4 * 4; i++) {
+                memcpy(one.given, otherwise[i / 16], sizeof one.given);
+                one.given[last] = bad[i % 4];
+                one.given[first] = bad[i / 4 % 4];
+                one.name = FIGURES[first].name;
+                one.answer[KELUBASHI_REFUSAL] = FIGURES[first].refusal;
+                answers();
+                other_runs();
+                other_answers();
+            }
+}
+
+/* All eight at once; and finite doubles at the edges, whose squares are infinite or zero. */
+static void all_alike(void)
+{
+    static const double edges[][2] = {
+        { NAN, 31 }, { INFINITY, 31 }, { DBL_MAX, 4 }, { -DBL_MAX, 4 }, { DBL_MIN, 3 }, { 0x1p-1074, 3 }, { -0.0, 3 }
+    };
+    static struct sample one = { "T-05, eight alike", { 0 }, { 0 }, 0, 0 };
+    size_t i, k;
+
+    sample = &one;
+    for (i = 0; i < sizeof edges / sizeof edges[0]; i++) {
+        for (k = 0; k < 8; k++)
+            one.given[k] = edges[i][0];
+        one.answer[KELUBASHI_REFUSAL] = edges[i][1];
+        answers();
+    }
+}
+
 int main(void)
 {
     size_t count = sizeof SAMPLES / sizeof SAMPLES[0];
@@ -295,6 +349,9 @@ int main(void)
     two_accelerations();
     comes_round();
     too_many();
-    printf("cases: P6 to P12, both zeros of tau, the nearer end, whole revolutions, runs of other lengths: %u calls, none differs\n", calls);
+    not_finite();
+    all_alike();
+    printf("cases: P6 to P12, both zeros of tau, the nearer end, whole revolutions, figures that are not finite, runs of other lengths: "
+           "%u calls, none differs\n", calls);
     return EXIT_SUCCESS;
 }

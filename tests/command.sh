@@ -204,14 +204,48 @@ state() {
     *) fail "$asked: it says '$(cat "$room/said")' and not that $number refuses it" ;;
     esac
 }
-state 2 1 nan 0 0 0 0 0 1
-state 2 -- -inf 1 0 0 0 0 0 1
+state 31 -- -inf 1 0 0 0 0 0 1
+state 32 1 nan nan 0 0 0 0 1
+state 33 1 0 nan 0 0 0 0 1
+state 34 1 0 0 inf 0 0 0 nan
+state 35 1 0 0 0 nan 0 0 1
+state 36 1 1 0 0 0 -nan 0 1
+state 37 1 1 0 0 0 0 nan 1
+state 38 1 1 0 0 0 0 0 inf
 state 3 1 0 0 0 0 0 0 1
 state 4 1 1e181 0 0 0 0 0 1
 state 5 1e200 1e-100 0 0 0 0 0 1e-200
 state 6 398600.4418 7000 0 0 0 7.5 0 1e300
 state 7 0 -1e10 0 0 -1e10 0 0 -1000
 state 8 -2 1e-150 0 0 0.001 0 0 0
+
+# A figure that is not finite is told with the word of the file that it came from: $1 the refusal, $2 the figure, $3 where it stands, $4 whose it is,
+# $5 the listing, of which request 0 is refused.
+figure() {
+    printf '%s\n' "$5" | tr ';' '\n' >"$room/bad.txt"
+    kelubashi 0 elements -q --any-bits "$room/bad.txt" -o "$room/bad"
+    second <"$room/bad" >"$room/bad.results"
+    kelubashi 1 results -q "$room/bad" -o "$room/out/file"
+    says "kelubashi results: $room/bad: request 0, of state 0: $3: refused ($1): $2 is infinite or a NaN; look at how $2 came about; $4"
+    new_is_whole "$room/bad.results"
+    kelubashi 1 show -q "$room/bad" "$room/bad.results"
+    shows "   refused ($1): $2 is infinite or a NaN: $3"
+}
+from_centre="a request has it from its state's centre"
+from_state='a request has it from its state'
+difference="a request's is its time less its state's epoch"
+figure 31 mu 'at byte 16, mu of centre 0' "$from_centre" 'centre nan;state 0 nan nan 0 0 0 0 0;request 0 1'
+figure 31 mu 'at byte 24, mu of centre 1' "$from_centre" 'centre 1;centre -inf;state 1 0 1 0 0 0 0 0;state 0 0 1 0 0 0 0 0;request 0 1;request 1 1'
+figure 32 x 'at byte 48, x of state 0' "$from_state" 'centre 1;state 0 0 nan inf 0 0 0 0;request 0 nan'
+figure 33 y 'at byte 56, y of state 0' "$from_state" 'centre 1;state 0 0 1 nan inf 0 0 0;request 0 1'
+figure 34 z 'at byte 64, z of state 0' "$from_state" 'centre 1;state 0 0 1 0 nan inf 0 0;request 0 1'
+figure 35 vx 'at byte 72, vx of state 0' "$from_state" 'centre 1;state 0 0 1 0 0 -inf inf 0;request 0 1'
+figure 36 vy 'at byte 80, vy of state 0' "$from_state" 'centre 1;state 0 0 1 0 0 0 nan inf;request 0 1'
+figure 37 vz 'at byte 88, vz of state 0' "$from_state" 'centre 1;state 0 nan 1 0 0 0 0 nan;request 0 1'
+figure 38 tau 'at byte 40, the epoch of state 0' "$difference" 'centre 1;state 0 inf 1 0 0 0 0 0;request 0 1'
+figure 38 tau 'at byte 112, the time of request 0' "$difference" 'centre 1;state 0 0 1 0 0 0 0 0;request 0 nan'
+figure 38 tau 'at byte 40, the epoch of state 0, and at byte 112, the time of request 0' "$difference" 'centre 1;state 0 nan 1 0 0 0 0 0;request 0 inf'
+figure 38 tau 'at byte 40, the epoch of state 0, and at byte 112, the time of request 0, too far apart' "$difference" 'centre 1;state 0 -1e308 1 0 0 0 0 0;request 0 1e308'
 
 # Each refusal of an element file: told with its byte, and in a result file of its own.
 file() {

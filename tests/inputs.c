@@ -19,7 +19,7 @@ static const struct state_family rows[] = {
     { { "any words", 3 }, 0, any_words },
     { { "any scales", 6 }, 1, any_scales },
     { { "one word of any bits", 5 }, 0, one_word },
-    { { "not finite", 2 }, 0, not_finite },
+    { { "not finite", 3 }, 1, not_finite },
     { { "small sums", 2 }, 1, small_sum },
     { { "subnormal sums", 2 }, 1, subnormal_sum },
     { { "large figures", 3 }, 1, large_figures },

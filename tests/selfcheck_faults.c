@@ -16,6 +16,7 @@ enum fault {
     NONE, ROOT_OF_ZEROS, ROOT_DROPS_SUBNORMALS, ROOT_NEVER_REFUSES, ROOT_CUT_OFF,
     ZEROS, NOTHING_WRITTEN, OTHER_NUMBERS, OTHER_COUNT, NO_REFUSAL_WORD, ONE_POINT_MORE, MINUS_ZERO_LOST,
     SIGN_OF_PSI_LOST, ACCELERATIONS_EXCHANGED, LAST_BIT, SHORT_END, REVOLUTIONS_KEPT, SUBNORMALS_DROPPED,
+    TWO_FOR_ALL_FIGURES, TWO_FOR_TAU, LAST_FIGURE, MU_AND_X_EXCHANGED,
     PARTIALS_UNWRITTEN, PARTIALS_BY_COLUMN, PARTIALS_LAST_BIT, PARTIALS_WITHOUT_ANSWER, PARTIALS_ANY_RUN, PARTIALS_UNDER_REFUSAL,
     READ_REFUSES_ALL, READ_BY_WORDS, READ_STATES_FOR_CENTRES, READ_TAKES_SHORT_FILES, READ_PLACE_LOST,
     WRITE_HIGHEST_FIRST, WRITE_NOTHING, WRITE_BEYOND, WRITE_IN_ANY_ROOM, WRITE_LENGTH_IN_WORDS,
@@ -49,6 +50,10 @@ static const struct telling {
     { SHORT_END, DOES_NOT "the nearer end: psi is 3FC12EC66FFED0D1 and not 3FC12EC66FFED0D2: " },
     { REVOLUTIONS_KEPT, DOES_NOT "whole revolutions: the count of points is 42 and not 54: " },
     { SUBNORMALS_DROPPED, DOES_NOT "the subnormal orbit: vy is 0000000000000000 and not 0000100000000000: " },
+    { TWO_FOR_ALL_FIGURES, DOES_NOT "P7: the status is 2 and not 32: " },
+    { TWO_FOR_TAU, DOES_NOT "a NaN for tau: the status is 2 and not 38: " },
+    { LAST_FIGURE, DOES_NOT "NaNs from mu on: the status is 38 and not 31: " },
+    { MU_AND_X_EXCHANGED, DOES_NOT "P7: the status is 31 and not 32: " },
     { PARTIALS_UNWRITTEN, DOES_NOT "the partials of the low Earth orbit: a partial is 5EED5EED5EED5EED and not " },
     { PARTIALS_BY_COLUMN, DOES_NOT "the partials of the low Earth orbit: a partial is BF79571FB16B916A and not BF70E20D50E051D8: " },
     { PARTIALS_LAST_BIT, DOES_NOT "the partials of the low Earth orbit: a partial is 3FF62E725EE51BB3 and not 3FF62E725EE51BB2: " },
@@ -124,6 +129,30 @@ static void drop(uint64_t *answer, uint64_t word)
             answer[i] = 0;
 }
 
+static int is_finite(uint64_t word)
+{
+    return (word >> 52 & 0x7FF) != 0x7FF;
+}
+
+/* Another number for the first of the eight that is not finite. */
+static uint64_t other_figure(uint64_t number, const uint64_t *eight)
+{
+    switch (fault) {
+    case TWO_FOR_ALL_FIGURES:     /* what the library before T-05 answers */
+        return 2;
+    case TWO_FOR_TAU:
+        return number == 38 ? 2 : number;
+    case LAST_FIGURE:
+        for (number = 38; is_finite(eight[number - 31]); number--)
+            ;
+        return number;
+    case MU_AND_X_EXCHANGED:
+        return number == 31 ? 32 : number == 32 ? 31 : number;
+    default:
+        return number;
+    }
+}
+
 /* The answer with the fault. */
 static void spoil(uint64_t *answer)
 {
@@ -171,13 +200,16 @@ uint64_t kelubashi1_propagate(uint64_t mu, uint64_t x, uint64_t y, uint64_t z,
                               uint64_t vx, uint64_t vy, uint64_t vz, uint64_t tau,
                               uint64_t *answer, size_t n)
 {
+    const uint64_t eight[8] = { mu, x, y, z, vx, vy, vz, tau };
     uint64_t right[KELUBASHI_ANSWER];
     uint64_t status = second_propagate(mu, x, y, z, vx, vy, vz, tau, right, n);
 
     if (fault == OTHER_COUNT)
         return 60;
+    if (status >= 31)
+        right[KELUBASHI_REFUSAL] = other_figure(status, eight);
     spoil(right);
-    if (fault == ZEROS || fault == OTHER_NUMBERS)
+    if (fault != NO_REFUSAL_WORD)
         status = right[KELUBASHI_REFUSAL];
     if (fault != NOTHING_WRITTEN)
         memcpy(answer, right, sizeof right);

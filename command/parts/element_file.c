@@ -6,8 +6,6 @@
 #include <inttypes.h>
 #include <stdio.h>
 
-enum { EPOCH = 1, TIME = 1 };   /* words of a state and of a request, behind their number */
-
 void judge_elements(struct element_file *elements)
 {
     uint64_t status = kelubashi1_read(elements->bytes, elements->length, elements->answer, KELUBASHI_READ_ANSWER);
@@ -41,7 +39,7 @@ static const struct section {
     { "request", KELUBASHI_REQUEST, { "the state", "the time" } }
 };
 
-/* What stands at a place, by the counts before it, which are good where the place is the first fault. */
+/* What stands at a place, by the counts before it, which are good in a file that is accepted, and where the place is the first fault. */
 static void describe(const struct element_file *elements, uint64_t place, char *text, size_t size)
 {
     uint64_t at = 8;
@@ -67,13 +65,20 @@ static void describe(const struct element_file *elements, uint64_t place, char *
     }
 }
 
+void describe_place(const struct element_file *elements, uint64_t place, char *text, size_t size)
+{
+    char what[64];
+
+    describe(elements, place, what, sizeof what);
+    snprintf(text, size, "at byte %" PRIu64 ", %s", place, what);
+}
+
 void say_refused_elements(const struct element_file *elements)
 {
-    uint64_t place = elements->answer[KELUBASHI_READ_PLACE];
-    char text[64];
+    char text[PLACE_TEXT];
 
-    describe(elements, place, text, sizeof text);
-    say_refused(elements_refusal(elements), "%s: at byte %" PRIu64 ", %s:", elements->name, place, text);
+    describe_place(elements, elements->answer[KELUBASHI_READ_PLACE], text, sizeof text);
+    say_refused(elements_refusal(elements), "%s: %s:", elements->name, text);
 }
 
 /* ---- records ---- */
@@ -100,25 +105,40 @@ void show_counts(const struct element_file *elements)
            (unsigned long)request_count(elements));
 }
 
-/* A word of a record, the records standing behind the count at this place. */
-static uint64_t record_word(const struct element_file *elements, int place, size_t record, size_t width, size_t word)
+/* The place of a word of a record, the records standing behind the count of their section. */
+static size_t record_place(const struct element_file *elements, int section, size_t record, size_t width, size_t word)
 {
-    return word_from(elements->bytes + (size_t)elements->answer[place] + 8 + 8 * (record * width + word));
+    return (size_t)elements->answer[section] + 8 + 8 * (record * width + word);
+}
+
+size_t centre_place(const struct element_file *elements, size_t centre)
+{
+    return record_place(elements, KELUBASHI_READ_CENTRES, centre, 1, 0);
+}
+
+size_t state_place(const struct element_file *elements, size_t state, size_t word)
+{
+    return record_place(elements, KELUBASHI_READ_STATES, state, KELUBASHI_STATE, word);
+}
+
+size_t request_place(const struct element_file *elements, size_t request, size_t word)
+{
+    return record_place(elements, KELUBASHI_READ_REQUESTS, request, KELUBASHI_REQUEST, word);
 }
 
 uint64_t centre_word(const struct element_file *elements, size_t centre)
 {
-    return record_word(elements, KELUBASHI_READ_CENTRES, centre, 1, 0);
+    return word_from(elements->bytes + centre_place(elements, centre));
 }
 
 uint64_t state_word(const struct element_file *elements, size_t state, size_t word)
 {
-    return record_word(elements, KELUBASHI_READ_STATES, state, KELUBASHI_STATE, word);
+    return word_from(elements->bytes + state_place(elements, state, word));
 }
 
 uint64_t request_word(const struct element_file *elements, size_t request, size_t word)
 {
-    return record_word(elements, KELUBASHI_READ_REQUESTS, request, KELUBASHI_REQUEST, word);
+    return word_from(elements->bytes + request_place(elements, request, word));
 }
 
 void copy_states(const struct element_file *elements, uint64_t *run)
@@ -132,11 +152,11 @@ void copy_states(const struct element_file *elements, uint64_t *run)
 
 size_t state_of(const struct element_file *elements, size_t request)
 {
-    return (size_t)request_word(elements, request, 0);
+    return (size_t)request_word(elements, request, REQUEST_STATE);
 }
 
 double interval_of(const struct element_file *elements, size_t request)
 {
-    return kelubashi_figure(request_word(elements, request, TIME)) -
-           kelubashi_figure(state_word(elements, state_of(elements, request), EPOCH));
+    return kelubashi_figure(request_word(elements, request, REQUEST_TIME)) -
+           kelubashi_figure(state_word(elements, state_of(elements, request), STATE_EPOCH));
 }

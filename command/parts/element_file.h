@@ -6,6 +6,11 @@
 
 #include "kelubashi.h"
 
+/* The words of a state and of a request. */
+enum { STATE_CENTRE = 0, STATE_EPOCH = 1, STATE_X = 2, STATE_VX = 5, REQUEST_STATE = 0, REQUEST_TIME = 1 };
+
+enum { PLACE_TEXT = 96 };   /* bytes that describe_place needs at most */
+
 struct element_file {
     const char *name;
     size_t length;
@@ -25,6 +30,9 @@ uint64_t elements_refusal(const struct element_file *elements);
 /* Says the refusal of the file: its number, byte, and what stands there. */
 void say_refused_elements(const struct element_file *elements);
 
+/* What stands at a byte of the file: "at byte 40, x of state 3". */
+void describe_place(const struct element_file *elements, uint64_t place, char *text, size_t size);
+
 /* How many there are, and a word of one of them; for a file that is accepted. */
 size_t centre_count(const struct element_file *elements);
 size_t state_count(const struct element_file *elements);
@@ -32,6 +40,11 @@ size_t request_count(const struct element_file *elements);
 uint64_t centre_word(const struct element_file *elements, size_t centre);
 uint64_t state_word(const struct element_file *elements, size_t state, size_t word);
 uint64_t request_word(const struct element_file *elements, size_t request, size_t word);
+
+/* The bytes at which these words stand. */
+size_t centre_place(const struct element_file *elements, size_t centre);
+size_t state_place(const struct element_file *elements, size_t state, size_t word);
+size_t request_place(const struct element_file *elements, size_t request, size_t word);
 
 /* A line with the file and how many there are. */
 void show_counts(const struct element_file *elements);

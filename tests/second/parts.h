@@ -54,8 +54,8 @@ struct figures {
     double radius; /* r */
 };
 
-/* The eight doubles in; 0, or refusal 2, 3 or 4.  Where 4 is given by H alone,
- * all of the start is there. */
+/* The eight doubles in: mu, x, y, z, vx, vy, vz, tau; 0, or refusal 31 to 38,
+ * 3 or 4.  Where 4 is given by H alone, all of the start is there. */
 unsigned sec_start(const double eight[8], struct start *s);
 double sec_length(const struct start *s, double psi); /* L, before reducing */
 struct coefficients sec_coefficients(double length);  /* for a finite L */

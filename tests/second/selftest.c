@@ -1,5 +1,6 @@
-/* Self-test: the document's marked cases, its "Run:" cases, every refusal of
- * the files and of the summary, and the physics on random orbits.
+/* Self-test: the document's marked cases, its "Run:" cases, every bad figure,
+ * every refusal of the files and of the summary, and the physics on random
+ * orbits.
  * Expectations come from the documents' rules and from mechanics, never from a
  * run of this program. */
 #include "selftest.h"
@@ -52,19 +53,32 @@ double between(double low, double high)
 
 /* ---- calls on doubles ---- */
 
+/* T-05: 2 is given no more, whatever comes in. */
+static uint64_t never_two(uint64_t number, const uint64_t answer[15])
+{
+    check(number != 2 && answer[0] != 2, "2 is given");
+    return number;
+}
+
 uint64_t propagate(const double e[8], uint64_t answer[15])
 {
-    return second_propagate(sec_word(e[0]), sec_word(e[1]), sec_word(e[2]),
-                            sec_word(e[3]), sec_word(e[4]), sec_word(e[5]),
-                            sec_word(e[6]), sec_word(e[7]), answer, 15);
+    uint64_t number =
+        second_propagate(sec_word(e[0]), sec_word(e[1]), sec_word(e[2]),
+                         sec_word(e[3]), sec_word(e[4]), sec_word(e[5]),
+                         sec_word(e[6]), sec_word(e[7]), answer, 15);
+
+    return never_two(number, answer);
 }
 
 uint64_t partials(const double e[8], uint64_t answer[15],
                          uint64_t *run, size_t k)
 {
-    return second_partials(sec_word(e[0]), sec_word(e[1]), sec_word(e[2]),
-                           sec_word(e[3]), sec_word(e[4]), sec_word(e[5]),
-                           sec_word(e[6]), sec_word(e[7]), answer, 15, run, k);
+    uint64_t number =
+        second_partials(sec_word(e[0]), sec_word(e[1]), sec_word(e[2]),
+                        sec_word(e[3]), sec_word(e[4]), sec_word(e[5]),
+                        sec_word(e[6]), sec_word(e[7]), answer, 15, run, k);
+
+    return never_two(number, answer);
 }
 
 void fill(uint64_t *run, size_t count)
@@ -126,6 +140,8 @@ int main(void)
     selftest_summary();
     selftest_changes();
     selftest_refused();
+    selftest_bad();
+    selftest_rows();
     printf("second program: %lu checks, %lu faults\n", checks, faults);
     return faults != 0;
 }

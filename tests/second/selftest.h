@@ -9,6 +9,8 @@
 #define MINUS_ZERO 0x8000000000000000u
 #define NAN_WORD 0x7FF8000000000000u
 #define INFINITE_WORD 0x7FF0000000000000u
+#define MINUS_INFINITE 0xFFF0000000000000u
+#define LARGEST 0x7FEFFFFFFFFFFFFFu /* of the finite doubles */
 #define KEPT 0xA5A5A5A5A5A5A5A5u /* what lent words hold before a call */
 
 /* Counts a check, and tells of it when it does not hold. */
@@ -28,6 +30,7 @@ void expect_refusal(const double e[8], uint64_t number, uint64_t points,
 void fill(uint64_t *run, size_t count);
 int kept(const uint64_t *run, size_t count);
 int kept_bytes(const uint8_t *run, size_t count);
+uint64_t get64(const uint8_t *at); /* a file's word */
 
 /* A random start: kind 0 ellipse, 1 hyperbola, 2 repelling, 3 no pull. */
 void orbit(double e[8], int kind, double mu, double r);
@@ -45,5 +48,7 @@ void selftest_files(void);
 void selftest_summary(void);
 void selftest_changes(void);
 void selftest_refused(void);
+void selftest_bad(void);
+void selftest_rows(void);
 
 #endif

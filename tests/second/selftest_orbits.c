@@ -259,10 +259,10 @@ static void test_partials_turned(void)
     printf("  largest relative gap: %.2e\n", worst);
 }
 
-/* Any bits at all: bounds, zeros in refusals, the nearer end when found. */
+/* Any finite bits: bounds, zeros in refusals, the nearer end when found. */
 static void test_any_bits(void)
 {
-    uint64_t a[15], b[15], run[36], seen[10] = {0};
+    uint64_t a[15], b[15], run[36], seen[9] = {0};
     long i;
     int j;
 
@@ -282,7 +282,8 @@ static void test_any_bits(void)
         propagate(e, a);
         partials(e, b, run, 36);
         check(a[0] <= 8 && a[1] <= 167, "any bits: bounds");
-        seen[a[0]]++;
+        if (a[0] <= 8)
+            seen[a[0]]++;
         for (j = 2; j < 15; j++)
             check(a[0] ? a[j] == 0 : sec_finite(sec_double(a[j])),
                   "any bits: figures");
@@ -294,9 +295,10 @@ static void test_any_bits(void)
             check_found(e, a);
     }
     group("any bits");
-    printf("  refusals 0 to 8 seen:");
+    printf("  refusals 0 and 3 to 8 seen:");
     for (j = 0; j <= 8; j++)
-        printf(" %lu", (unsigned long)seen[j]);
+        if (j == 0 || j >= 3)
+            printf(" %lu", (unsigned long)seen[j]);
     printf("\n");
 }
 

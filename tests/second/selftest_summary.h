@@ -9,7 +9,6 @@
 #define MINUS_ONE 0xBFF0000000000000u
 #define TWO 0x4000000000000000u
 #define MINUS_TWO 0xC000000000000000u
-#define MINUS_INFINITE 0xFFF0000000000000u
 #define ALL_ONES 0xFFFFFFFFFFFFFFFFu
 
 /* What is lent, with a word behind each run. */

@@ -7,15 +7,16 @@ static double dot(const double a[3], const double b[3])
     return a[0] * b[0] + a[1] * b[1] + a[2] * b[2];
 }
 
-/* Refusal 2: any of the eight is NaN or infinite. */
-static int all_finite(const double eight[8])
+/* T-05: 31 to 38, by the first of mu, x, y, z, vx, vy, vz and tau that is NaN
+ * or infinite; 0 when all are finite. */
+static unsigned first_bad(const double eight[8])
 {
-    int i;
+    unsigned i;
 
     for (i = 0; i < 8; i++)
         if (!sec_finite(eight[i]))
-            return 0;
-    return 1;
+            return 31 + i;
+    return 0;
 }
 
 static void take(const double eight[8], struct start *s)
@@ -62,10 +63,10 @@ static unsigned first_step(struct start *s)
 
 unsigned sec_start(const double eight[8], struct start *s)
 {
-    unsigned refusal;
+    unsigned refusal = first_bad(eight);
 
-    if (!all_finite(eight))
-        return 2;
+    if (refusal != 0)
+        return refusal;
     take(eight, s);
     refusal = initial(s);
     if (refusal != 0)

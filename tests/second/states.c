@@ -210,8 +210,8 @@ static int partials(const struct motion *m, const struct answer *a,
     return all_finite(run, 36);
 }
 
-/* Refusals 2 to 4, then 5 and 6 of the search, 7 when r is not above zero
- * (a NaN is not), then 8; lent memory is touched by none of them. */
+/* Refusals 31 to 38, 3 and 4, then 5 and 6 of the search, 7 when r is not
+ * above zero (a NaN is not), then 8; lent memory is touched by none of them. */
 struct answer sec_propagate(const double eight[8], double *lent)
 {
     struct start s;

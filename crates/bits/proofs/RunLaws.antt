@@ -1,6 +1,6 @@
--- What is known of a run that has none of the sought words, what a word says of the double that it is the word of, and a run after a copy.
+-- What is known of the first word that is sought and of a run that has none, what a word says of the double that it is the word of, and a run after a copy.
 use mathlib.Core.Path.{_≡_, refl, sym, ap, subst, _∙_}
-use mathlib.Core.Bool.{Bool, true, false, not, _||_}
+use mathlib.Core.Bool.{Bool, true, false, not, _||_, true≢false}
 use mathlib.Core.List.{List, [], _∷_}
 use Prim.Native.Nat.{ℕ, zero, suc, _+_, _<_, _≤_}
 use native.Mathlib.Omega.{arith}
@@ -51,24 +51,47 @@ module _ (s : Sought) (ws : List ℕ) {first : ℕ} (e : first ≡ firstOf s ws)
   unfolding has
   has-none h = rw (← e, le-ltb first (length ws) h)
 
--- Where a run has no sought word, none of its words is sought.
-none-first : (s : Sought) (ws : List ℕ) (k : ℕ) → length ws ≤ firstOf s ws → k < length ws → isSought s (getD ws k 0) ≡ false
+-- No word before the first is sought,
+pub before-first : (s : Sought) (ws : List ℕ) (k : ℕ) → k < firstOf s ws → isSought s (getD ws k 0) ≡ false
 unfolding firstOf
-none-first s [] k h l = absurd (omega arith)
-none-first s (w ∷ ws) zero h l = go (isSought s w) h
+before-first s [] k h = absurd (omega arith)
+before-first s (w ∷ ws) zero h = go (isSought s w) h
   where
-    go : (b : Bool) → length (w ∷ ws) ≤ pick b 0 (1 + firstOf s ws) → b ≡ false
+    go : (b : Bool) → 0 < pick b 0 (1 + firstOf s ws) → b ≡ false
     go true h = absurd (omega arith)
     go false h = refl
-none-first s (w ∷ ws) (suc k) h l = none-first s ws k (go (isSought s w) h) (omega arith)
+before-first s (w ∷ ws) (suc k) h = before-first s ws k (go (isSought s w) h)
   where
-    go : (b : Bool) → length (w ∷ ws) ≤ pick b 0 (1 + firstOf s ws) → length ws ≤ firstOf s ws
+    go : (b : Bool) → suc k < pick b 0 (1 + firstOf s ws) → k < firstOf s ws
     go true h = absurd (omega arith)
     go false h = omega arith
 
+-- the first is,
+pub at-first : (s : Sought) (ws : List ℕ) → firstOf s ws < length ws → isSought s (getD ws (firstOf s ws) 0) ≡ true
+unfolding firstOf
+at-first s [] h = absurd (omega arith)
+at-first s (w ∷ ws) h = go (isSought s w) refl (λ l. at-first s ws l) h
+  where
+    go : (b : Bool) → isSought s w ≡ b → (firstOf s ws < length ws → isSought s (getD ws (firstOf s ws) 0) ≡ true) → pick b 0 (1 + firstOf s ws) < length (w ∷ ws)
+        → isSought s (getD (w ∷ ws) (pick b 0 (1 + firstOf s ws)) 0) ≡ true
+    go true e r h = e
+    go false e r h = let n : suc (firstOf s ws) ≡ 1 + firstOf s ws = omega arith in subst (λ (k : ℕ). isSought s (getD (w ∷ ws) k 0) ≡ true) n (r (omega arith))
+
+-- and so one that is, with none before it, is the first.
+pub is-first : (s : Sought) (ws : List ℕ) (k : ℕ) → k < length ws → isSought s (getD ws k 0) ≡ true → ((j : ℕ) → j < k → isSought s (getD ws j 0) ≡ false)
+    → firstOf s ws ≡ k
+is-first s ws k l sought none = elim (decLt (firstOf s ws) k) [
+  | yes a ↦ absurd (true≢false (sym (at-first s ws (omega arith)) ∙ none (firstOf s ws) a))
+  | no b ↦ elim (decLt k (firstOf s ws)) [
+    | yes a ↦ absurd (true≢false (sym sought ∙ before-first s ws k a))
+    | no c ↦ omega arith
+  ]
+]
+
+-- Where a run has no sought word, none of its words is sought.
 pub none-sought : (s : Sought) (ws : List ℕ) → has s ws ≡ false → (k : ℕ) → k < length ws → isSought s (getD ws k 0) ≡ false
 unfolding has
-none-sought s ws h k l = none-first s ws k (ltb-false (firstOf s ws) (length ws) h) l
+none-sought s ws h k l = before-first s ws k (omega (arith, ltb-false (firstOf s ws) (length ws) h))
 
 -- A run of another length keeps its words; one of their number has those copied.
 module _ (words run : List ℕ) where

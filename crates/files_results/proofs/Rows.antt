@@ -6,16 +6,18 @@ use Prim.Native.Nat.{ℕ, zero, suc, _*_, _<_, _≤_}
 use native.Mathlib.Omega.{arith}
 use borrow.Author.Tests.{le-leb, lt-leb}
 use lib.Dec.{leb}
-use lib.ListN.{length, length-append}
+use lib.ListN.{length, length-append, getD}
 use Rattle.states_arcs.specs.Results.{figuresOf}
-use Rattle.states.specs.Call.{answerWords}
+use Rattle.states.specs.Call.{refused, answerWords, propagateOf}
+use Rattle.states.specs.declared.figures.Answer.{Answer}
+use Rattle.states.proofs.NamedFigures.{names-figure}
 use Rattle.bits.specs.Choice.{pick}
 use Rattle.files_words.specs.Bytes.{asBytes, put}
 use Rattle.files_words.proofs.WordLaws.{length-as-bytes, as-bytes-append}
 use Rattle.files_words.proofs.PutLaws.{put-next, put-outside, length-put}
 use Rattle.files_reader.specs.declared.Places.{Places}
 use Rattle.files_results.specs.Requests.{requestWords}
-use Rattle.files_results.specs.Results.{resultEdition, rowWords, rowPlace, rowOf, rowsOf, sectionsWords, outcomeIn, withRow, withRows}
+use Rattle.files_results.specs.Results.{resultEdition, rowWords, rowPlace, rowOf, RowsName, rowsOf, sectionsWords, outcomeIn, withRow, withRows}
 
 -- ---- Rows.
 pub row-length : (words : List ℕ) → length (rowOf words) ≡ rowWords
@@ -28,6 +30,24 @@ rows-length file places zero = refl
 rows-length file places (suc n) =
     length-append (rowsOf file places n) (rowOf (requestWords file places n))
     ∙ (omega (arith, rows-length file places n, row-length (requestWords file places n)))
+
+-- T-05: a row's first word is the call's refusal.
+first-word : (words : List ℕ) → getD (rowOf words) 0 0 ≡ propagateOf words .refusal
+unfolding rowOf answerWords figuresOf
+first-word words = refl
+
+eight : (file : List ℕ) (places : Places) (k : ℕ) → length (requestWords file places k) ≡ 8
+unfolding requestWords
+eight file places k = refl
+
+pub rows-name : RowsName
+unfolding refused
+rows-name file places k figure =
+    let words = requestWords file places k in
+    let names = names-figure _ _ words (eight file places k) .0 in (
+      λ f. first-word words ∙ ap (λ (a : Answer). a .refusal) (names .named figure f),
+      λ l e. names .told figure l (sym (first-word words) ∙ e),
+    )
 
 module _ (file : List ℕ) (places : Places) where
   rows-bytes : (n : ℕ) → length (asBytes (rowsOf file places n)) ≡ 8 * (rowWords * n)

@@ -90,9 +90,9 @@ table =
     -- "P5 L = +0: c0 = c1 = 1, c2 = 1/2." By ψ, and by α; for any two whose L is +0 it is `p5` of crate `series`.
     ∷ record { asked = coefficients one 0; must = one ∷ one ∷ 0x3fe0000000000000 ∷ [] }
     ∷ record { asked = coefficients 0 one; must = one ∷ one ∷ 0x3fe0000000000000 ∷ [] }
-    -- "P6 position 0: 3. P7 x NaN: 2. P8 x = 2^−600, y = z = 0: 3. P9 x = 2^600: 4."
+    -- "P6 position 0: 3. P7 x NaN: 2. P8 x = 2^−600, y = z = 0: 3. P9 x = 2^600: 4." T-05: "P7 then gives 32".
     ∷ record { asked = call (at-x 0); must = refusedWith 3 0 }
-    ∷ record { asked = call (at-x 0x7ff8000000000000); must = refusedWith 2 0 }
+    ∷ record { asked = call (at-x 0x7ff8000000000000); must = refusedWith 32 0 }
     ∷ record { asked = call (at-x 0x1a70000000000000); must = refusedWith 3 0 }
     ∷ record { asked = call (at-x 0x6570000000000000); must = refusedWith 4 0 }
     -- "P10 μ = 0, position (1,0,0), at rest, τ = 1: ψ = 1, 21 points. P11 the same, τ = −1: ψ = −1, 21 points."

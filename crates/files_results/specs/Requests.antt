@@ -10,7 +10,7 @@ use Rattle.files_sections.specs.declared.sections.Section.the-variants.{Centres
 use Rattle.files_sections.specs.Sections.{after, stateCentre, stateEpoch, statePosition, stateVelocity, requestState, requestTime}
 use Rattle.files_reader.specs.declared.Places.{Places}
 
--- ---- "τ is time − epoch", rounded once, as a word. Where the time or the epoch isn't finite, neither is τ (`not-finite-difference`), and the row's refusal is 2.
+-- ---- "τ is time − epoch", rounded once, as a word. Where the time or the epoch isn't finite, neither is τ (`not-finite-difference`), and the row is refused.
 abbrev pub tauOf : (time epoch : ℕ) → ℕ
 tauOf time epoch = toBits binary64 (ofBits binary64 time ⊖ ofBits binary64 epoch)
 

@@ -2,10 +2,11 @@
 -- file gives three words: 1, 0, its number."
 use mathlib.Core.Path.{_≡_, refl}
 use mathlib.Core.List.{List, [], _∷_, _++_}
-use Prim.Native.Nat.{ℕ, zero, suc, _+_, _*_}
+use Prim.Native.Nat.{ℕ, zero, suc, _+_, _*_, _<_}
 use lib.Dec.{leb}
-use lib.ListN.{length, take}
+use lib.ListN.{length, take, getD}
 use Rattle.bits.specs.Choice.{pick}
+use Rattle.states_start.specs.Given.{figureRefusal, FirstBad}
 use Rattle.states.specs.Call.{answerWords, propagateOf}
 use Rattle.files_words.specs.Bytes.{asBytes, put}
 use Rattle.files_sections.specs.declared.sections.Section.the-variants.{Requests}
@@ -44,6 +45,15 @@ longestResult = rowPlace (limitOf Requests)
 -- ---- "per request 11 words: refusal or 0, points, position, velocity, end acceleration": the first eleven of an answer's.
 unfoldable pub rowOf : List ℕ → List ℕ
 rowOf words = take rowWords (answerWords (propagateOf words))
+
+-- T-05, of a row: its first word tells the first figure that is NaN or infinite, exactly where there is one. By `eightWords` μ is the centre's, x to vz are the state's, and τ is of the
+-- request's time and the state's epoch.
+abbrev pub RowsName : Type 0
+RowsName =
+    (file : List ℕ) (places : Places) (k figure : ℕ) →
+    let words = requestWords file places k in
+    let first-word = getD (rowOf words) 0 0 in
+    (FirstBad words figure → first-word ≡ figureRefusal figure) × (figure < 8 → first-word ≡ figureRefusal figure → FirstBad words figure)
 
 -- The rows of the first n requests.
 unfoldable pub rowsOf : List ℕ → Places → (n : ℕ) → List ℕ

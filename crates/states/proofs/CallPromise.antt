@@ -124,20 +124,20 @@ reaches pt pr words s e =
     ∙ ap (reachedFound start d) e
 
 -- The results of an arc, or 7 or 8.
-abbrev SevenOrEight : Ended → Results → Type 0
+abbrev pub SevenOrEight : Ended → Results → Type 0
 SevenOrEight e r = (e ≡ ended.Results r) ⊎ ((e ≡ ended.Refused 7) ⊎ (e ≡ ended.Refused 8))
 
 -- The same of an answer.
-abbrev Settled : Answer → ℕ → Results → Type 0
+abbrev pub Settled : Answer → ℕ → Results → Type 0
 Settled a n r = (a ≡ answered n r) ⊎ ((a ≡ refused 7 n) ⊎ (a ≡ refused 8 n))
 
-settled : (n : ℕ) (e : Ended) (r : Results) → SevenOrEight e r → Settled (endedAnswer n e) n r
+pub settled : (n : ℕ) (e : Ended) (r : Results) → SevenOrEight e r → Settled (endedAnswer n e) n r
 unfolding endedAnswer
 settled n e r (inl p) = inl (ap (endedAnswer n) p)
 settled n e r (inr (inl p)) = inr (inl (ap (endedAnswer n) p))
 settled n e r (inr (inr p)) = inr (inr (ap (endedAnswer n) p))
 
-settled-with : (arc : Arc) (n : ℕ) (e : Ended) (r : Results) (run : List ℕ) → length run ≡ 36 → SevenOrEight e r → Settled (endedWith arc n e run) n r
+pub settled-with : (arc : Arc) (n : ℕ) (e : Ended) (r : Results) (run : List ℕ) → length run ≡ 36 → SevenOrEight e r → Settled (endedWith arc n e run) n r
 unfolding withPartials
 settled-with arc n e r run h (inl p) =
     ⊎-elim
@@ -268,7 +268,7 @@ module _ (pr : Proposing) where
       → ((o : Orbit) (whole : WholeInterval) (s : Start) (c : Course) → r ≡ read.Orbit o whole → begunOf o ≡ begun.Start s c → intervalOf c whole .off ≡ off.Nothing)
       → reachedReadBy intervalOf pr r ≡ reachedReadBy wholly pr r
   unfolding reachedOrbitBy
-  from-read (read.NotFinite k) none = refl
+  from-read (read.Refused n) none = refl
   from-read (read.Orbit o whole) none = from-begun (begunOf o) whole (λ s c e. none o whole s c refl e)
 
 pub else-01-stands : Else01Stands

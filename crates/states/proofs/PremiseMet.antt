@@ -67,7 +67,7 @@ p10-found pr = finds-anomaly intervalOf pr p10 p10-searches nonzero (subst (Find
 -- No revolution comes off P10: its orbit does not close.
 orbitIn : Read → Orbit
 orbitIn (read.Orbit o d) = o
-orbitIn (read.NotFinite k) = orbit
+orbitIn (read.Refused n) = orbit
 
 courseIn : Begun → Course
 courseIn (begun.Start s c) = c

@@ -1,5 +1,5 @@
 -- Document 01, "Refusals in order of checking", for the call without partials and what the two calls share: "A refusal carries the trial points used so far (0
--- for 1 to 4 and 9), all other figures +0; lent memory keeps its bytes. The first that applies is given, and none otherwise."
+-- for 1 to 4 and 9), all other figures +0; lent memory keeps its bytes. The first that applies is given, and none otherwise." Since T-05, 31 to 38 stand in the place of 2.
 use mathlib.Core.Bool.{not}
 use mathlib.Core.List.{List, _∷_}
 use Prim.Native.Nat.{ℕ}
@@ -83,9 +83,9 @@ reachedBegunBy pt pr (begun.Start s c) whole = reachedFromBy pt pr s c whole
 unfoldable pub reachedOrbitBy : Parting → Proposing → Orbit → WholeInterval → Reached
 reachedOrbitBy pt pr o whole = reachedBegunBy pt pr (begunOf o) whole
 
--- Refusal 2: "any of the eight is NaN or infinite".
+-- T-05: "31 to 38 replace 2, at its place", before all others but 1.
 abbrev pub reachedReadBy : Parting → Proposing → Read → Reached
-reachedReadBy pt pr (read.NotFinite k) = reached.Refused 2 0
+reachedReadBy pt pr (read.Refused n) = reached.Refused n 0
 reachedReadBy pt pr (read.Orbit o whole) = reachedOrbitBy pt pr o whole
 
 unfoldable pub reachedWordsBy : Parting → Proposing → List ℕ → Reached

@@ -3,7 +3,7 @@ use mathlib.Core.Path.{_≡_}
 use mathlib.Core.Logic.{_⊎_}
 use mathlib.Core.Bool.{true, false}
 use mathlib.Core.List.{List}
-use Prim.Native.Nat.{ℕ, _≤_}
+use Prim.Native.Nat.{ℕ, _<_, _≤_}
 use lib.Ieee.{eq}
 use lib.ListN.{length}
 use Rattle.bits.specs.Arithmetic.{n0, isFinite}
@@ -19,7 +19,7 @@ use Rattle.states_revolutions.specs.declared.figures.Interval.{Interval}
 use Rattle.states_revolutions.specs.declared.figures.Course.{Course}
 use Rattle.states_revolutions.specs.declared.figures.Off.the-variants as off
 use Rattle.states_arcs.specs.Results.{arcOf, resultsOf}
-use Rattle.states_start.specs.Given.{readOf}
+use Rattle.states_start.specs.Given.{figureRefusal, readOf, AnyBad, FirstBad}
 use Rattle.states_start.specs.Initial.{begunOf, firstStepOf}
 use Rattle.states.specs.Call.{Parting, wholly, refused, answered, noResults, propagateBy}
 use Rattle.states.specs.WithPartials.{partialsBy, lentBy}
@@ -39,13 +39,31 @@ UnchangedOrAnswer =
     (pt : Parting) (pr : Proposing) (words run : List ℕ) →
     (partialsBy pt pr words run .refusal ≡ 0) ⊎ ((partialsBy pt pr words run .results ≡ noResults) × (lentBy pt pr words run ≡ run))
 
+-- T-05, of the answer to eight words.
+pub record NamesBad (words : List ℕ) (a : Answer) : Type 0 where
+  -- "Give the first bad one by name": where a figure is the first that is NaN or infinite, whatever else could be refused, its number, no points and no figures;
+  pub named : (k : ℕ) → FirstBad words k → a ≡ refused (figureRefusal k) 0
+  -- and where its number is given, it is the first.
+  pub told : (k : ℕ) → k < 8 → a .refusal ≡ figureRefusal k → FirstBad words k
+  -- "The set of refused inputs is the same": 31 to 38 are given exactly where document 01 gives 2.
+  pub refused-all : AnyBad words → (31 ≤ a .refusal) × (a .refusal ≤ 38)
+  pub refused-only : 31 ≤ a .refusal → a .refusal ≤ 38 → AnyBad words
+  -- "31 to 38 replace 2".
+  pub never-2 : a .refusal ≡ 2 → ⊥
+
+-- Both calls; 1 comes first.
+abbrev pub NamesFigure : Type 0
+NamesFigure =
+    (pt : Parting) (pr : Proposing) (words : List ℕ) → length words ≡ 8 →
+    NamesBad words (propagateBy pt pr words) × ((run : List ℕ) → length run ≡ 36 → NamesBad words (partialsBy pt pr words run))
+
 -- "initial figures that pass refusals 1 to 4": the call gets as far as the search. T-04: "H and demands 2 and 3 then speak of the reduced interval".
 pub record Searches (pt : Parting) (words : List ℕ) : Type 0 where
   pub orbit : Orbit
   pub whole : WholeInterval
   pub start : Start
   pub course : Course
-  -- Not refused by 2.
+  -- Not refused by 31 to 38, which T-05 puts in the place of 2.
   pub reads : readOf words ≡ read.Orbit orbit whole
   -- Not by 3, nor by 4 but for H.
   pub begins : begunOf orbit ≡ begun.Start start course

@@ -96,13 +96,13 @@ fn reach_orbit(orbit: Orbit, whole: WholeInterval) -> Reached
     }
 }
 
-// From the eight words: refusal 2, then the orbit.
+// From the eight words: refusals 31 to 38, then the orbit.
 pub fn reach(words: [u64; 8]) -> Reached
     ensures { λ r. ⌜ r ≡ reachedOf words ⌝ }
 {
     match states_start::orbit_of(words) {
         Read::Orbit(orbit, whole) => reach_orbit(orbit, whole),
-        Read::NotFinite(_) => Reached::Refused(2, 0),
+        Read::Refused(refusal) => Reached::Refused(refusal, 0),
     }
 }
 

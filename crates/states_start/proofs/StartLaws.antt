@@ -1,14 +1,14 @@
 -- What the definitions say of the eight words and of an orbit's start.
 use mathlib.Core.Path.{_≡_, refl, sym, _∙_, ap, subst}
-use mathlib.Core.Bool.{Bool, true, false, cond, true≢false}
+use mathlib.Core.Bool.{Bool, true, false, cond, not, true≢false}
 use mathlib.Core.List.{List}
 use mathlib.Core.Logic.{_⊎_, inl, inr}
 use Prim.Native.Nat.{ℕ, _<_}
 use native.Mathlib.Decide.{decLe}
 use native.Mathlib.Omega.{arith}
-use borrow.Author.Tests.{not-false, eq-eqb, ne-eqb, le-leb, lt-leb}
+use borrow.Author.Tests.{not-true, not-false, eq-eqb, ne-eqb, le-leb, lt-leb, ltb-true}
 use lib.Dec.{T, eqb}
-use lib.ListN.{length}
+use lib.ListN.{length, getD}
 use lib.Ieee.{Float, nan, inf, fin, binary64, unlike, div, eq, ofBits, toBits}
 use lib.Ieee.Positive.{positive}
 use Rattle.bits.specs.Choice.{pick}
@@ -19,35 +19,66 @@ use Rattle.bits.specs.Root.{nearestWord, rootWordOf, rootOf}
 use Rattle.bits.specs.declared.runs.Sought.the-variants.{NotFinite}
 use Rattle.bits.proofs.Doubles.{word-positive}
 use Rattle.bits.proofs.Exists.{nearest-word}
-use Rattle.bits.proofs.RunLaws.{none-sought}
+use Rattle.bits.proofs.RunLaws.{before-first, at-first, is-first, has-one, none-sought}
 use Rattle.states_revolutions.specs.declared.figures.Course.{Course}
-use Rattle.states_start.specs.Given.{doubleAt, orbit, interval, readOf, readRefusal}
+use Rattle.states_start.specs.Given.{doubleAt, orbit, interval, figureRefusal, readOf, AnyBad, FirstBad}
 use Rattle.states_start.specs.Initial.{dot, begunOf}
 use Rattle.states_start.specs.declared.figures.Orbit.{Orbit}
 use Rattle.states_start.specs.declared.figures.Start.{Start}
 use Rattle.states_start.specs.declared.figures.Begun.the-variants as begun
 use Rattle.states_start.specs.declared.figures.Read.the-variants as read
 
--- ---- Refusal 2 is given exactly where one of the eight is NaN or infinite.
+-- ---- T-05: eight words are refused by the first that is NaN or infinite, and where there is none they are not.
 module _ (words : List ℕ) (eight : length words ≡ 8) where
-  abbrev refusalBy : Bool → ℕ
-  refusalBy b = readRefusal (pick b (read.NotFinite (firstOf NotFinite words)) (read.Orbit (orbit words) (interval words)))
+  abbrev first : ℕ
+  first = firstOf NotFinite words
 
-  pub not-refused-2 : readRefusal (readOf words) ≡ 0 → (k : ℕ) → k < 8 → isFinite (doubleAt words k) ≡ true
-  unfolding readOf
-  not-refused-2 h k l = go (has NotFinite words) refl h
-    where
-      go : (b : Bool) → has NotFinite words ≡ b → refusalBy b ≡ 0 → isFinite (doubleAt words k) ≡ true
-      go true e h = absurd (omega arith)
-      go false e h = not-false _ (none-sought NotFinite words e k (omega arith))
+  is-bad : (k : ℕ) → isSought NotFinite (getD words k 0) ≡ true → isFinite (doubleAt words k) ≡ false
+  is-bad k e = not-true _ e
 
-  pub refused-2 : (k : ℕ) → k < 8 → isFinite (doubleAt words k) ≡ false → readRefusal (readOf words) ≡ 2
+  pub names-first : (k : ℕ) → FirstBad words k → readOf words ≡ read.Refused (figureRefusal k)
   unfolding readOf
-  refused-2 k l f = go (has NotFinite words) refl
+  names-first k f =
+      let e = is-first NotFinite words k (omega (arith, f .one-of-eight)) (ap not (f .bad)) (λ j l. ap not (f .none-before j l)) in
+      rw (has-one NotFinite words (sym e) (omega (arith, f .one-of-eight)), e)
+
+  bad-first : has NotFinite words ≡ true → FirstBad words first
+  unfolding has
+  bad-first h =
+      let l : first < 8 = omega (arith, ltb-true first (length words) h) in
+      record {
+        one-of-eight = l;
+        bad = is-bad first (at-first NotFinite words (omega arith));
+        none-before = λ k b. not-false _ (before-first NotFinite words k b);
+      }
+
+  -- One that is bad has a first.
+  pub first-bad : AnyBad words → FirstBad words first
+  first-bad a = go (has NotFinite words) refl
     where
-      go : (b : Bool) → has NotFinite words ≡ b → refusalBy b ≡ 2
-      go true e = refl
-      go false e = absurd (true≢false (sym (not-false _ (none-sought NotFinite words e k (omega arith))) ∙ f))
+      go : (b : Bool) → has NotFinite words ≡ b → FirstBad words first
+      go true e = bad-first e
+      go false e = absurd (true≢false (sym (not-false _ (none-sought NotFinite words e (a .figure) (omega (arith, a .one-of-eight)))) ∙ a .bad))
+
+  pub refused-first : (n : ℕ) → readOf words ≡ read.Refused n → (n ≡ figureRefusal first) × FirstBad words first
+  unfolding readOf
+  refused-first n h = go (has NotFinite words) refl h
+    where
+      go : (b : Bool) → has NotFinite words ≡ b → pick b (read.Refused (figureRefusal first)) (read.Orbit (orbit words) (interval words)) ≡ read.Refused n
+          → (n ≡ figureRefusal first) × FirstBad words first
+      go true e h = (cc, bad-first e)
+      go false e h = absurd (let z : _≡_ {A = ℕ} 0 1 = cc in omega arith)
+
+-- ---- Refusals 3 and 4 are all that an orbit gets.
+pub three-or-four : (o : Orbit) (n : ℕ) → begunOf o ≡ begun.Refused n → (n ≡ 3) ⊎ (n ≡ 4)
+unfolding begunOf
+three-or-four o n e = go _ _ _ (eq (dot (o .state .position) (o .state .position)) n0) _ refl e
+  where
+    go : (words : List ℕ) (s : Start) (c : Course) (zero bad : Bool) → has NotFinite words ≡ bad
+        → pick zero (begun.Refused 3) (pick bad (begun.Refused 4) (begun.Start s c)) ≡ begun.Refused n → (n ≡ 3) ⊎ (n ≡ 4)
+    go words s c true bad f e = inl cc
+    go words s c false true f e = inr cc
+    go words s c false false f e = absurd (let z : _≡_ {A = ℕ} 0 1 = cc in omega arith)
 
 -- ---- r0 is above zero wherever there are initial figures. The root is +0 or above zero, and +0 divides to no finite quotient.
 root-word : (w : ℕ) → (rootWordOf w ≡ 0) ⊎ T (positive (ofBits binary64 (rootWordOf w)))

@@ -1,4 +1,4 @@
--- A word that is not finite, and the initial figures of one orbit, evaluated from the definitions; the figures come from an independent program. Document 01's
+-- Words that are not finite, and the initial figures of one orbit, evaluated from the definitions; the figures come from an independent program. Document 01's
 -- marked cases are in the table of crate `files_results`.
 use mathlib.Core.Path.{_≡_, refl}
 use mathlib.Core.List.{List, [], _∷_}
@@ -15,10 +15,34 @@ use Rattle.states_start.specs.Initial.{dot, begunOf, firstStepOf}
 use Rattle.states_start.specs.declared.figures.Read.the-variants as read
 use Rattle.states_start.specs.declared.figures.Begun.the-variants as begun
 
--- The first word that is not finite is named: here the velocity's y, an infinity.
-named : readOf (0 ∷ 0 ∷ 0 ∷ 0 ∷ 0 ∷ 0x7ff0000000000000 ∷ 0 ∷ 0xfff8000000000000 ∷ []) ≡ read.NotFinite 5
+-- ---- T-05: "31 to 38 .. in the order μ, x, y, z, vx, vy, vz, τ".
+abbrev infinite : ℕ
+infinite = 0x7ff0000000000000
+
+-- The sign bit and a digit: a NaN, whatever its other bits.
+abbrev nan : ℕ
+nan = 0xfff0000000000001
+
+-- Each of the eight alone.
+alone :
+    (readOf (nan ∷ 0 ∷ 0 ∷ 0 ∷ 0 ∷ 0 ∷ 0 ∷ 0 ∷ []) ≡ read.Refused 31)
+    × (readOf (0 ∷ nan ∷ 0 ∷ 0 ∷ 0 ∷ 0 ∷ 0 ∷ 0 ∷ []) ≡ read.Refused 32)
+    × (readOf (0 ∷ 0 ∷ nan ∷ 0 ∷ 0 ∷ 0 ∷ 0 ∷ 0 ∷ []) ≡ read.Refused 33)
+    × (readOf (0 ∷ 0 ∷ 0 ∷ nan ∷ 0 ∷ 0 ∷ 0 ∷ 0 ∷ []) ≡ read.Refused 34)
+    × (readOf (0 ∷ 0 ∷ 0 ∷ 0 ∷ infinite ∷ 0 ∷ 0 ∷ 0 ∷ []) ≡ read.Refused 35)
+    × (readOf (0 ∷ 0 ∷ 0 ∷ 0 ∷ 0 ∷ infinite ∷ 0 ∷ 0 ∷ []) ≡ read.Refused 36)
+    × (readOf (0 ∷ 0 ∷ 0 ∷ 0 ∷ 0 ∷ 0 ∷ infinite ∷ 0 ∷ []) ≡ read.Refused 37)
+    × (readOf (0 ∷ 0 ∷ 0 ∷ 0 ∷ 0 ∷ 0 ∷ 0 ∷ infinite ∷ []) ≡ read.Refused 38)
 unfolding firstOf has readOf eq ofBits
-named = refl
+alone = (refl, refl, refl, refl, refl, refl, refl, refl)
+
+-- Of several the first: of vy and τ, of μ and x, of all eight.
+of-several :
+    (readOf (0 ∷ 0 ∷ 0 ∷ 0 ∷ 0 ∷ infinite ∷ 0 ∷ nan ∷ []) ≡ read.Refused 36)
+    × (readOf (nan ∷ infinite ∷ 0 ∷ 0 ∷ 0 ∷ 0 ∷ 0 ∷ 0 ∷ []) ≡ read.Refused 31)
+    × (readOf (nan ∷ nan ∷ nan ∷ nan ∷ nan ∷ nan ∷ nan ∷ nan ∷ []) ≡ read.Refused 31)
+unfolding firstOf has readOf eq ofBits
+of-several = (refl, refl, refl)
 
 -- μ = 1, position (1, 0.25, -0.5), velocity (0.125, 1, 0.5), τ = 1.5: r0, σ0, α, the course and H.
 an-orbit : List ℕ

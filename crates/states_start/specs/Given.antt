@@ -1,9 +1,12 @@
 -- Document 01: "Eight doubles come in: μ of any sign, x y z, vx vy vz, and the interval τ." They come as words, in this order.
+use mathlib.Core.Path.{_≡_}
+use mathlib.Core.Bool.{true, false}
 use mathlib.Core.List.{List}
-use Prim.Native.Nat.{ℕ, _+_}
+use Prim.Native.Nat.{ℕ, _+_, _<_}
 use lib.Ieee.{Float, binary64, ofBits}
 use lib.ListN.{getD}
 use Rattle.bits.specs.Choice.{pick}
+use Rattle.bits.specs.Arithmetic.{isFinite}
 use Rattle.bits.specs.Runs.{firstOf, has}
 use Rattle.bits.specs.declared.runs.Sought.the-variants.{NotFinite}
 use Rattle.states_revolutions.specs.declared.figures.WholeInterval.{WholeInterval}
@@ -26,11 +29,24 @@ orbit words = record { mu = doubleAt words 0; state = record { position = vector
 abbrev pub interval : List ℕ → WholeInterval
 interval words = record { 0 = doubleAt words 7 }
 
--- Refusal 2: "any of the eight is NaN or infinite". Then there is no orbit, but the number of the first such word.
-unfoldable pub readOf : List ℕ → Read
-readOf words = pick (has NotFinite words) (read.NotFinite (firstOf NotFinite words)) (read.Orbit (orbit words) (interval words))
+-- T-05: "Give the first bad one by name, in the order μ, x, y, z, vx, vy, vz, τ." "31 to 38 replace 2, at its place". The refusal of a figure by its number among the eight, from 0.
+abbrev pub figureRefusal : ℕ → ℕ
+figureRefusal k = 31 + k
 
--- The document's number, or 0.
-abbrev pub readRefusal : Read → ℕ
-readRefusal (read.NotFinite k) = 2
-readRefusal (read.Orbit o tau) = 0
+-- Document 01's refusal 2 was given where "any of the eight is NaN or infinite"; since T-05 it is that of the first such figure. Then there is no orbit.
+unfoldable pub readOf : List ℕ → Read
+readOf words = pick (has NotFinite words) (read.Refused (figureRefusal (firstOf NotFinite words))) (read.Orbit (orbit words) (interval words))
+
+-- ---- The same in the documents' words, without a walk over the words. What the calls make of it is `NamesFigure` of crate `states`.
+
+-- Document 01, refusal 2: "any of the eight is NaN or infinite".
+pub record AnyBad (words : List ℕ) : Type 0 where
+  pub figure : ℕ
+  pub one-of-eight : figure < 8
+  pub bad : isFinite (doubleAt words figure) ≡ false
+
+-- T-05: "the first bad one".
+pub record FirstBad (words : List ℕ) (figure : ℕ) : Type 0 where
+  pub one-of-eight : figure < 8
+  pub bad : isFinite (doubleAt words figure) ≡ false
+  pub none-before : (k : ℕ) → k < figure → isFinite (doubleAt words k) ≡ true

@@ -22,10 +22,10 @@ pub struct Orbit {
     pub state: State,
 }
 
-// What eight words hold: an orbit and the whole interval; or a word that is not finite, and then the number of the first such word, from 0.
+// What eight words hold: an orbit and the whole interval; or the number of the refusal, which tells the first that is not finite.
 pub enum Read {
     Orbit(Orbit, WholeInterval),
-    NotFinite(u64),
+    Refused(u64),
 }
 
 // What every interval of one orbit begins with: its state, and its initial figures, mu among them.

@@ -4,7 +4,7 @@ ghost use mathlib.Core.Bool.{false};
 ghost use Prim.Native.Nat.{_+_, _<_};
 ghost use Rattle.bits.specs.Runs.{has};
 ghost use Rattle.bits.specs.declared.runs.Sought.the-variants.{NotFinite};
-ghost use Rattle.states_start.specs.Given.{doubleAt, vectorAt, readOf};
+ghost use Rattle.states_start.specs.Given.{doubleAt, vectorAt, figureRefusal, readOf};
 use super::figures::Orbit;
 use super::figures::Read;
 use super::figures::State;
@@ -32,13 +32,21 @@ fn vector_at(words: [u64; 8], k: usize) -> Vector
     }
 }
 
-// The orbit and the whole interval of eight words, if all are finite (refusal 2).
+// The refusal of a figure that is not finite, by its number among the eight, from 0: 31 of mu, 32 to 34 of x, y and z, 35 to 37 of vx, vy and vz, 38 of tau.
+fn figure_refusal(figure: usize) -> u64
+    requires { ⌜ figure < 8 ⌝ }
+    ensures { λ r. ⌜ r ≡ figureRefusal figure ⌝ }
+{
+    31 + figure as u64
+}
+
+// The orbit and the whole interval of eight words, if all are finite; else the refusal of the first that is not.
 pub fn orbit_of(words: [u64; 8]) -> Read
     ensures { λ r. ⌜ r ≡ readOf words ⌝ }
 {
     let first = bits::first_of(&words, Sought::NotFinite);
     if first < 8 {
-        return Read::NotFinite(first as u64);
+        return Read::Refused(figure_refusal(first));
     }
     let position = vector_at(words, 1);
     let velocity = vector_at(words, 4);

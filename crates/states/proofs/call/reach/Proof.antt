@@ -14,8 +14,8 @@ enum-known-orbit c = search needs
 reach-orbit-requires : tie.Need-reach-orbit-requires
 reach-orbit-requires c κs = search needs
 
-enum-told : tie.Need-enum-told
-enum-told c = search needs
+enum-known-refusal : tie.Need-enum-known-refusal
+enum-known-refusal c = search needs
 
 returns : tie.Need-returns
 unfolding reachedWordsBy
@@ -23,9 +23,9 @@ returns c = c .reach-orbit .ensures ∙ ap reachedRead (sym (c .before .before .
 
 returns-2 : tie.Need-returns-2
 unfolding reachedWordsBy
-returns-2 c = ap reachedRead (sym (c .enum-told .given .1) ∙ c .before .before .orbit-of .ensures)
+returns-2 c = ap reachedRead (sym (c .before .refusal .given .1) ∙ c .before .before .before .orbit-of .ensures)
 
 pub reach-spec : {M : Type 1} → statement M
 reach-spec =
     tie.close
-    (tie.spec orbit-of-requires enum-known-orbit reach-orbit-requires enum-told returns returns-2)
+    (tie.spec orbit-of-requires enum-known-orbit reach-orbit-requires enum-known-refusal returns returns-2)

@@ -9,16 +9,16 @@ use lib.ListN.{length}
 use Rattle.bits.specs.Runs.{firstOf}
 use Rattle.bits.specs.declared.runs.Sought.the-variants.{NotFinite}
 use Rattle.bits.proofs.RunLaws.{has-one, has-none}
-use Rattle.states_start.specs.Given.{doubleAt, vectorAt, readOf}
+use Rattle.states_start.specs.Given.{doubleAt, vectorAt, figureRefusal, readOf}
 use Rattle.states_start.specs.declared.figures.Vector.{Vector}
 use Rattle.states_start.specs.declared.figures.Read.the-variants as read
 use Rattle.states_start.proofs.given.orbit_of.Statement.{statement}
 use Rattle.states_start.proofs.given.orbit_of.Tie as tie
 
 module _ (words : List ℕ) {first : ℕ} (e : first ≡ firstOf NotFinite words) where
-  refused : first < length words → read.NotFinite first ≡ readOf words
+  refused : first < length words → {n : ℕ} → n ≡ figureRefusal first → read.Refused n ≡ readOf words
   unfolding readOf
-  refused h = rw (has-one NotFinite words e h, e)
+  refused h en = rw (has-one NotFinite words e h, en, e)
 
   accepted : length words ≤ first → (mu tau : Float) (position velocity : Vector)
       → mu ≡ doubleAt words 0 → position ≡ vectorAt words 1 → velocity ≡ vectorAt words 4 → tau ≡ doubleAt words 7
@@ -32,8 +32,11 @@ slice-aggregate-first-of c = search needs
 first-of-requires : tie.Need-first-of-requires
 first-of-requires c κs = search needs
 
+figure-refusal-requires : tie.Need-figure-refusal-requires
+figure-refusal-requires c κs = search needs
+
 returns : tie.Need-returns
-returns c = refused _ (c .before .first-of .ensures) (omega arith)
+returns c = refused _ (c .before .before .first-of .ensures) (omega arith) (c .figure-refusal .ensures)
 
 vector-at-requires : tie.Need-vector-at-requires
 vector-at-requires c κs = (has-none _ _ (c .before .first-of .ensures) (omega arith), omega arith)
@@ -59,6 +62,7 @@ orbit-of-spec =
     (tie.spec
     slice-aggregate-first-of
     first-of-requires
+    figure-refusal-requires
     returns
     vector-at-requires
     vector-at-requires-2

@@ -1,0 +1,41 @@
+#include "origin.h"
+
+#include <math.h>
+#include <stdio.h>
+
+enum { MU = 31, X = 32, VZ = 37, TAU = 38 };    /* refusals, by the figure that is not finite */
+
+static int is_finite(uint64_t word)
+{
+    return isfinite(kelubashi_figure(word)) != 0;
+}
+
+/* tau is the time less the epoch: one of them is at fault, or both are, or they are finite and too far apart. */
+static void describe_interval(const struct element_file *elements, size_t request, char *text, size_t size)
+{
+    size_t state = state_of(elements, request);
+    int epoch = is_finite(state_word(elements, state, STATE_EPOCH)), time = is_finite(request_word(elements, request, REQUEST_TIME));
+    char first[PLACE_TEXT], second[PLACE_TEXT];
+
+    describe_place(elements, state_place(elements, state, STATE_EPOCH), first, sizeof first);
+    describe_place(elements, request_place(elements, request, REQUEST_TIME), second, sizeof second);
+    if (epoch != time)
+        snprintf(text, size, "%s", epoch ? second : first);
+    else
+        snprintf(text, size, "%s, and %s%s", first, second, epoch ? ", too far apart" : "");
+}
+
+int describe_origin(const struct element_file *elements, size_t request, uint64_t refusal, char *text, size_t size)
+{
+    size_t state = state_of(elements, request);
+
+    if (refusal == MU)
+        describe_place(elements, centre_place(elements, (size_t)state_word(elements, state, STATE_CENTRE)), text, size);
+    else if (refusal >= X && refusal <= VZ)
+        describe_place(elements, state_place(elements, state, STATE_X + (size_t)(refusal - X)), text, size);
+    else if (refusal == TAU)
+        describe_interval(elements, request, text, size);
+    else
+        return 0;
+    return 1;
+}
