@@ -237,7 +237,7 @@ static const char *orbit(const struct orbit *at)
 
 static const struct orbit *const LOW_ORBIT = &ORBITS[7];
 
-/* ---- the same with NaNs from one of the eight on: that one is told ---- */
+/* ---- the low Earth orbit with NaNs from one of the eight on: that one is told ---- */
 
 #define NAN_WORD W(7FF8000000000000)
 

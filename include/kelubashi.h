@@ -130,8 +130,9 @@ uint64_t kelubashi1_root(uint64_t word, uint64_t *answer, size_t n);
 **  smaller error in time; if the errors are equal in size, or both infinite, it is the one nearer to zero.
 **
 **  Refusals: the first that applies in the order 60, 31 to 38, 3 to 8. 31 to 38 tell which of the eight is
-**  infinite or a NaN: the first in the order mu, x, y, z, vx, vy, vz, tau. "Too large" of 4 is said of
-**  distance, speed, energy and the first step.
+**  infinite or a NaN: the first in the order mu, x, y, z, vx, vy, vz, tau. They stand in the place of 2,
+**  which libraries before gave for all of them. "Too large" of 4 is said of distance, speed, energy and
+**  the first step.
 */
 KELUBASHI_STATUS
 uint64_t kelubashi1_propagate(uint64_t mu, uint64_t x, uint64_t y, uint64_t z,
@@ -519,21 +520,21 @@ static inline const struct kelubashi_refusal *kelubashi_refusal_of(uint64_t numb
         { 27, "a run is not whole records; or of a run of states: not 500, more than 500 in use, or not one to append",
               "give words as the count: 8 for each state, 2 for each request, 4,000 for a run of states, 8 for one to append" },
         { 31, "mu is infinite or a NaN",
-              "look at how mu came about; a request has it from its state's centre" },
+              "look at how mu came about; in an element file it is the centre's" },
         { 32, "x is infinite or a NaN",
-              "look at how x came about; a request has it from its state" },
+              "look at how x came about; in an element file it is the state's" },
         { 33, "y is infinite or a NaN",
-              "look at how y came about; a request has it from its state" },
+              "look at how y came about; in an element file it is the state's" },
         { 34, "z is infinite or a NaN",
-              "look at how z came about; a request has it from its state" },
+              "look at how z came about; in an element file it is the state's" },
         { 35, "vx is infinite or a NaN",
-              "look at how vx came about; a request has it from its state" },
+              "look at how vx came about; in an element file it is the state's" },
         { 36, "vy is infinite or a NaN",
-              "look at how vy came about; a request has it from its state" },
+              "look at how vy came about; in an element file it is the state's" },
         { 37, "vz is infinite or a NaN",
-              "look at how vz came about; a request has it from its state" },
+              "look at how vz came about; in an element file it is the state's" },
         { 38, "tau is infinite or a NaN",
-              "look at how tau came about; a request's is its time less its state's epoch" },
+              "look at how tau came about; in an element file it is the request's time less the state's epoch" },
         { 41, "the list does not have one entry for each centre",
               "lend 4 words for each centre, and give as many as their count" },
         { 42, "500 states are in use already, or the state to withdraw is not in use",

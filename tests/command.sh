@@ -231,9 +231,9 @@ figure() {
     kelubashi 1 show -q "$room/bad" "$room/bad.results"
     shows "   refused ($1): $2 is infinite or a NaN: $3"
 }
-from_centre="a request has it from its state's centre"
-from_state='a request has it from its state'
-difference="a request's is its time less its state's epoch"
+from_centre="in an element file it is the centre's"
+from_state="in an element file it is the state's"
+difference="in an element file it is the request's time less the state's epoch"
 figure 31 mu 'at byte 16, mu of centre 0' "$from_centre" 'centre nan;state 0 nan nan 0 0 0 0 0;request 0 1'
 figure 31 mu 'at byte 24, mu of centre 1' "$from_centre" 'centre 1;centre -inf;state 1 0 1 0 0 0 0 0;state 0 0 1 0 0 0 0 0;request 0 1;request 1 1'
 figure 32 x 'at byte 48, x of state 0' "$from_state" 'centre 1;state 0 0 nan inf 0 0 0 0;request 0 nan'
@@ -483,6 +483,8 @@ for byte in 17 25 33 103; do
     { head -c $byte "$room/good.results" && printf '\377' && tail -c +$((byte + 2)) "$room/good.results"; } >"$results"
     foreign "$good" "$results" 'is of another element file, of another library, or damaged: in row 0 '
 done
+{ head -c 16 "$room/bad.results" && printf '\002' && tail -c +18 "$room/bad.results"; } >"$results"     # as the library before T-05 answered
+foreign "$room/bad" "$results" 'is of another element file, of another library, or damaged: in row 0 the refusal is 2, and the library answers 38 to request 0 of '
 cp "$room/good.results" "$results"
 kelubashi 2 show "$room/no_centre" "$results"
 says "kelubashi show: $room/no_centre: at byte 32, the centre of state 0: refused (24): a state's centre, or a request's state, is not there; correct that number: they start at 0 and stay below the section's count

@@ -26,25 +26,37 @@ TABLE
     esac
 done
 
-# How often each text that an edit takes out, lines marked old: one after another, stands in the file which it names: a line for each that is not there once.
+# As rt applies an edit: each line old: with the line new: behind it. A line for each text that does not stand once in its file, as the pairs before have left that, and for each half of a pair.
 misfits() {
     awk -v crate="$1" '
-        function settle(    rest, at, times) {
-            if (taken == "") return
-            for (rest = text; (at = index(rest, taken)) > 0; rest = substr(rest, at + length(taken))) times++
-            if (times != 1) print "stands " times + 0 " times in " path ": " taken
-            taken = ""
+        function times(    rest, at, count) {
+            count = 0
+            for (rest = text[path]; (at = index(rest, taken)) > 0; rest = substr(rest, at + length(taken))) count++
+            return count
         }
         /^file: / {
-            settle()
             path = crate "/" substr($0, 7)
-            text = ""
-            while ((getline line <path) > 0) text = text line "\n"
-            close(path)
+            if (!(path in text)) {
+                while ((getline line <path) > 0) text[path] = text[path] line "\n"
+                close(path)
+            }
         }
-        /^old:/ { taken = (taken == "" ? "" : taken "\n") substr($0, 6) }
-        !/^old:/ { settle() }
-        END { settle() }' "$2"
+        /^old: / {
+            if (taken != "") print "has no line new: behind it: " taken
+            taken = substr($0, 6)
+        }
+        /^new:/ {
+            if (taken == "") print "is missing, before: " $0
+            else if (times() != 1) print "stands " times() " times in " path ": " taken
+            else {
+                at = index(text[path], taken)
+                put = substr($0, 5)
+                sub(/^ /, "", put)
+                text[path] = substr(text[path], 1, at - 1) put substr(text[path], at + length(taken))
+            }
+            taken = ""
+        }
+        END { if (taken != "") print "has no line new: behind it: " taken }' "$2"
 }
 
 for edit in crates/*/must-fail/*.edit tests/wrong/*/*.edit; do

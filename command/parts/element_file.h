@@ -30,7 +30,7 @@ uint64_t elements_refusal(const struct element_file *elements);
 /* Says the refusal of the file: its number, byte, and what stands there. */
 void say_refused_elements(const struct element_file *elements);
 
-/* What stands at a byte of the file: "at byte 40, x of state 3". */
+/* What stands at a byte of the file: "at byte 48, x of state 0". */
 void describe_place(const struct element_file *elements, uint64_t place, char *text, size_t size);
 
 /* How many there are, and a word of one of them; for a file that is accepted. */

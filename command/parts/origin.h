@@ -8,7 +8,7 @@
 
 enum { ORIGIN_TEXT = 2 * PLACE_TEXT + 32 };     /* bytes that describe_origin needs at most */
 
-/* Of a request that is refused by 31 to 38, what is at fault: "at byte 40, mu of centre 0". False for any other number. */
+/* Of a request that is refused by 31 to 38, what is at fault: "at byte 16, mu of centre 0". False for any other number. */
 int describe_origin(const struct element_file *elements, size_t request, uint64_t refusal, char *text, size_t size);
 
 #endif

@@ -4,6 +4,7 @@
 #include "say.h"
 
 #include <inttypes.h>
+#include <stdio.h>
 
 enum {
     HEAD = 16,          /* bytes before the rows: edition and count */
@@ -102,20 +103,31 @@ static int is_alike(const struct result_file *results, const struct result_file 
     return 0;
 }
 
+/* A word of a row as it is read: the first two are whole numbers, the others the words of doubles. */
+static void describe_word(size_t word, uint64_t value, char *text, size_t size)
+{
+    if (word < KELUBASHI_X)
+        snprintf(text, size, "%" PRIu64, value);
+    else
+        snprintf(text, size, "%016" PRIX64, value);
+}
+
 /* The first word in which it is not what the library answers now. */
 static void say_difference(const struct result_file *results, const struct result_file *right,
                            const struct element_file *elements, size_t word)
 {
-    size_t in_rows = word - HEAD / 8;
+    size_t in_rows = word - HEAD / 8, in_row = in_rows % KELUBASHI_ROW;
+    char here[24], there[24];
 
+    describe_word(in_row, word_of(results, word), here, sizeof here);
+    describe_word(in_row, word_of(right, word), there, sizeof there);
     if (right->length == REFUSED_FILE)
         say("%s: is of another element file, one that is refused (%" PRIu64 "), and %s is refused (%" PRIu64 "): " FOREIGN,
             results->name, word_of(results, word), elements->name, word_of(right, word));
     else
-        say("%s: is of another element file, of another library, or damaged: in row %lu %s is %016" PRIX64 ", and the library "
-            "answers %016" PRIX64 " to request %lu of %s: " FOREIGN, results->name,
-            (unsigned long)(in_rows / KELUBASHI_ROW), NAMES[in_rows % KELUBASHI_ROW], word_of(results, word),
-            word_of(right, word), (unsigned long)(in_rows / KELUBASHI_ROW), elements->name);
+        say("%s: is of another element file, of another library, or damaged: in row %lu %s is %s, and the library answers %s "
+            "to request %lu of %s: " FOREIGN, results->name, (unsigned long)(in_rows / KELUBASHI_ROW), NAMES[in_row], here,
+            there, (unsigned long)(in_rows / KELUBASHI_ROW), elements->name);
 }
 
 int are_results_of(const struct result_file *results, const struct element_file *elements)

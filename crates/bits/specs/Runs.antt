@@ -1,5 +1,5 @@
--- Runs of words. A double crosses every border as its word, so that a run of figures or of divisors is looked through as words (document 01, refusals 2, 4
--- and 8).
+-- Runs of words. A double crosses every border as its word, so that a run of figures or of divisors is looked through as words (refusals 31 to 38, 4 and
+-- 8).
 use mathlib.Core.Bool.{Bool, true, false, not, _||_}
 use mathlib.Core.List.{List, [], _∷_}
 use Prim.Native.Nat.{ℕ, _+_}

@@ -6,7 +6,9 @@ use Prim.Native.Nat.{ℕ, zero, suc, _*_, _<_, _≤_}
 use native.Mathlib.Omega.{arith}
 use borrow.Author.Tests.{le-leb, lt-leb}
 use lib.Dec.{leb}
-use lib.ListN.{length, length-append, getD}
+use lib.Ieee.{ofBits, toBits}
+use lib.ListN.{length, length-append, take, getD}
+use Rattle.states_start.specs.Given.{figureRefusal}
 use Rattle.states_arcs.specs.Results.{figuresOf}
 use Rattle.states.specs.Call.{refused, answerWords, propagateOf}
 use Rattle.states.specs.declared.figures.Answer.{Answer}
@@ -17,7 +19,7 @@ use Rattle.files_words.proofs.WordLaws.{length-as-bytes, as-bytes-append}
 use Rattle.files_words.proofs.PutLaws.{put-next, put-outside, length-put}
 use Rattle.files_reader.specs.declared.Places.{Places}
 use Rattle.files_results.specs.Requests.{requestWords}
-use Rattle.files_results.specs.Results.{resultEdition, rowWords, rowPlace, rowOf, RowsName, rowsOf, sectionsWords, outcomeIn, withRow, withRows}
+use Rattle.files_results.specs.Results.{resultEdition, rowWords, rowPlace, rowOf, refusedRow, RowsName, rowsOf, sectionsWords, outcomeIn, withRow, withRows}
 
 -- ---- Rows.
 pub row-length : (words : List ℕ) → length (rowOf words) ≡ rowWords
@@ -31,21 +33,31 @@ rows-length file places (suc n) =
     length-append (rowsOf file places n) (rowOf (requestWords file places n))
     ∙ (omega (arith, rows-length file places n, row-length (requestWords file places n)))
 
--- T-05: a row's first word is the call's refusal.
+-- T-05: a row is of the call's answer, and its first word the call's refusal.
+rowFrom : Answer → List ℕ
+rowFrom a = take rowWords (answerWords a)
+
+of-answer : (words : List ℕ) → rowOf words ≡ rowFrom (propagateOf words)
+unfolding rowOf rowFrom
+of-answer words = refl
+
 first-word : (words : List ℕ) → getD (rowOf words) 0 0 ≡ propagateOf words .refusal
 unfolding rowOf answerWords figuresOf
 first-word words = refl
+
+of-refusal : (n : ℕ) → rowFrom (refused n 0) ≡ refusedRow n
+unfolding rowFrom answerWords figuresOf refused toBits ofBits
+of-refusal n = refl
 
 eight : (file : List ℕ) (places : Places) (k : ℕ) → length (requestWords file places k) ≡ 8
 unfolding requestWords
 eight file places k = refl
 
 pub rows-name : RowsName
-unfolding refused
 rows-name file places k figure =
     let words = requestWords file places k in
     let names = names-figure _ _ words (eight file places k) .0 in (
-      λ f. first-word words ∙ ap (λ (a : Answer). a .refusal) (names .named figure f),
+      λ f. of-answer words ∙ ap rowFrom (names .named figure f) ∙ of-refusal (figureRefusal figure),
       λ l e. names .told figure l (sym (first-word words) ∙ e),
     )
 

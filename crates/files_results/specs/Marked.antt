@@ -1,7 +1,7 @@
--- Document 01's marked cases, P1 to P12 and P10's whole result file, and one of T-04: what each asks, what it must give, and one statement, computed from the
+-- Document 01's marked cases, P1 to P12 and P10's whole result file, and some of T-04 and T-05: what each asks, what it must give, and one statement, computed from the
 -- definitions.
 use mathlib.Core.Path.{_≡_, refl}
-use mathlib.Core.List.{List, [], _∷_, map}
+use mathlib.Core.List.{List, [], _∷_, _++_, map}
 use Prim.Native.Nat.{ℕ}
 use lib.Ieee.{binary64, add, sub, mul, div, neg, lt, eq, ne, ofInt, ofBits, toBits}
 use Rattle.bits.specs.Words.{minusZero, wordsOf}
@@ -22,7 +22,7 @@ use Rattle.states.specs.Call.{refused, answered, reachedFound, reachedOverBy, r
 use Rattle.files_words.specs.Bytes.{asBytes}
 use Rattle.files_reader.specs.Reader.{readingOf}
 use Rattle.files_results.specs.Requests.{requestWords}
-use Rattle.files_results.specs.Results.{rowOf, rowsOf, resultFile}
+use Rattle.files_results.specs.Results.{refusedRow, rowOf, rowsOf, resultFile}
 
 -- What a case asks for: the root of a word; the coefficients at L = +0, by α and ψ; a call of eight words; the result file of an element file. All are words.
 pub data Asked : Type 0 where
@@ -79,6 +79,50 @@ around tau = one ∷ one ∷ 0 ∷ 0 ∷ 0 ∷ one ∷ 0 ∷ tau ∷ []
 abbrev comesRound : List ℕ
 comesRound = 0 ∷ 0 ∷ one ∷ 0 ∷ 0 ∷ 0 ∷ one ∷ 0 ∷ minusOne ∷ minusZero ∷ minusZero ∷ minusOne ∷ minusZero ∷ minusZero ∷ 0 ∷ []
 
+-- T-05: a file in which each request has one word that is NaN or infinite: its centre's μ; x to vz of its state; its state's epoch; its own time. The last has none: without a force, and thrown so slowly that
+-- the square of its speed is zero, it goes as P10 does, from 1 s to 2 s, and what it has gone by then is its velocity times 1 s.
+abbrev nan : ℕ
+nan = 0x7ff8000000000000
+
+abbrev infinite : ℕ
+infinite = 0xfff0000000000000
+
+abbrev two : ℕ
+two = 0x4000000000000000
+
+-- 2^−600 and 2^−601.
+abbrev slow : ℕ
+slow = 0x1a70000000000000
+
+abbrev slower : ℕ
+slower = 0x1a60000000000000
+
+-- Centre, epoch, position and velocity, before other words.
+abbrev state : (centre epoch x y z vx vy vz : ℕ) → List ℕ → List ℕ
+state centre epoch x y z vx vy vz rest = centre ∷ epoch ∷ x ∷ y ∷ z ∷ vx ∷ vy ∷ vz ∷ rest
+
+abbrev badWords : List ℕ
+badWords =
+    1 ∷ 2 ∷ 0 ∷ nan
+    ∷ 10
+    ∷ (state 1 0 one 0 0 0 0 0
+    (state 0 0 nan 0 0 0 0 0
+    (state 0 0 one infinite 0 0 0 0
+    (state 0 0 one 0 nan 0 0 0
+    (state 0 0 one 0 0 infinite 0 0
+    (state 0 0 one 0 0 0 nan 0
+    (state 0 0 one 0 0 0 0 infinite
+    (state 0 nan one 0 0 0 0 0
+    (state 0 0 one 0 0 0 0 0
+    (state 0 one one 0 0 0 slow slower
+    (10 ∷ 0 ∷ one ∷ 1 ∷ one ∷ 2 ∷ one ∷ 3 ∷ one ∷ 4 ∷ one ∷ 5 ∷ one ∷ 6 ∷ one ∷ 7 ∷ one ∷ 8 ∷ infinite ∷ 9 ∷ two ∷ [])))))))))))
+
+abbrev badRows : List ℕ
+badRows =
+    1 ∷ 10
+    ∷ (refusedRow 31 ++ (refusedRow 32 ++ (refusedRow 33 ++ (refusedRow 34 ++ (refusedRow 35 ++ (refusedRow 36 ++ (refusedRow 37 ++ (refusedRow 38 ++ (refusedRow 38
+    ++ (0 ∷ 21 ∷ one ∷ slow ∷ slower ∷ 0 ∷ slow ∷ slower ∷ minusZero ∷ minusZero ∷ minusZero ∷ []))))))))))
+
 -- ---- The table.
 abbrev pub table : List Case
 table =
@@ -108,6 +152,8 @@ table =
       asked = file (1 ∷ 1 ∷ 0 ∷ 1 ∷ 0 ∷ 0 ∷ one ∷ 0 ∷ 0 ∷ 0 ∷ 0 ∷ 0 ∷ 1 ∷ 0 ∷ one ∷ []);
       must = asBytes (1 ∷ 1 ∷ 0 ∷ 21 ∷ one ∷ 0 ∷ 0 ∷ 0 ∷ 0 ∷ 0 ∷ minusZero ∷ minusZero ∷ minusZero ∷ []);
     }
+    -- T-05: 31 to 38 of a result row, by the word of the element file that is not finite.
+    ∷ record { asked = file badWords; must = asBytes badRows }
     -- "A refused file gives three words: 1, 0, its number." Here an empty one.
     ∷ record { asked = file []; must = asBytes (1 ∷ 0 ∷ 21 ∷ []) }
     ∷ []

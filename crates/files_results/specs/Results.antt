@@ -46,14 +46,18 @@ longestResult = rowPlace (limitOf Requests)
 unfoldable pub rowOf : List ℕ → List ℕ
 rowOf words = take rowWords (answerWords (propagateOf words))
 
--- T-05, of a row: its first word tells the first figure that is NaN or infinite, exactly where there is one. By `eightWords` μ is the centre's, x to vz are the state's, and τ is of the
--- request's time and the state's epoch.
+-- A row that is refused before any point is tried.
+abbrev pub refusedRow : (refusal : ℕ) → List ℕ
+refusedRow refusal = refusal ∷ 0 ∷ 0 ∷ 0 ∷ 0 ∷ 0 ∷ 0 ∷ 0 ∷ 0 ∷ 0 ∷ 0 ∷ []
+
+-- T-05, of a row: it tells the first figure that is NaN or infinite, exactly where there is one. By `eightWords` μ is the centre's, x to vz are the state's, and τ is of the request's time
+-- and the state's epoch.
 abbrev pub RowsName : Type 0
 RowsName =
     (file : List ℕ) (places : Places) (k figure : ℕ) →
     let words = requestWords file places k in
-    let first-word = getD (rowOf words) 0 0 in
-    (FirstBad words figure → first-word ≡ figureRefusal figure) × (figure < 8 → first-word ≡ figureRefusal figure → FirstBad words figure)
+    (FirstBad words figure → rowOf words ≡ refusedRow (figureRefusal figure))
+    × (figure < 8 → getD (rowOf words) 0 0 ≡ figureRefusal figure → FirstBad words figure)
 
 -- The rows of the first n requests.
 unfoldable pub rowsOf : List ℕ → Places → (n : ℕ) → List ℕ

@@ -1,3 +1,4 @@
 -- Laws of the C face, for every entry point; then what each leaves open.
 pub mod Face
+pub mod Named
 pub mod OneAnswers

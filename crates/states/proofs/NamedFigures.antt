@@ -1,11 +1,11 @@
 -- T-05: both calls give the first figure that is NaN or infinite by its number, and no other input such a number.
-use mathlib.Core.Path.{_≡_, refl, sym, _∙_, ap, subst}
+use mathlib.Core.Path.{_≡_, refl, sym, ap, subst}
 use mathlib.Core.Logic.{_⊎_, inl, inr, ⊎-elim}
 use mathlib.Core.Bool.{Bool, true, false, not}
 use mathlib.Core.List.{List}
-use Prim.Native.Nat.{ℕ, _-_, _<_, _≤_}
+use Prim.Native.Nat.{ℕ, _<_, _≤_}
 use native.Mathlib.Omega.{arith}
-use borrow.Author.Tests.{eq-eqb}
+use borrow.Author.Tests.{eq-eqb, ne-eqb}
 use lib.ListN.{length}
 use Rattle.bits.specs.Choice.{pick}
 use Rattle.bits.specs.Arithmetic.{isFinite}
@@ -19,7 +19,7 @@ use Rattle.states_revolutions.specs.declared.figures.Interval.{Interval}
 use Rattle.states_arcs.specs.Results.{resultsOf, endedOf}
 use Rattle.states_arcs.specs.declared.figures.Results.{Results}
 use Rattle.states_arcs.proofs.EndLaws.{seven-or-eight}
-use Rattle.states_start.specs.Given.{figureRefusal, readOf, AnyBad, FirstBad}
+use Rattle.states_start.specs.Given.{figureRefusal, readOf, FirstBad}
 use Rattle.states_start.specs.Initial.{begunOf, firstStepOf}
 use Rattle.states_start.specs.declared.figures.Orbit.{Orbit}
 use Rattle.states_start.specs.declared.figures.Start.{Start}
@@ -147,4 +147,5 @@ names-figure pt pr words eight =
       λ run h. names-bad words eight (partialsBy pt pr words run)
           (λ n e. rw (eq-eqb (length run) 36 h) (ap (λ (y : Reached). partialsFrom y run) (reached-figure pt pr words n e)))
           (λ o whole e. rw (eq-eqb (length run) 36 h) (partials-other x run h (reached-other pt pr words o whole e))),
+      λ run h. rw (ne-eqb (length run) 36 h),
     )

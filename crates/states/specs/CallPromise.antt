@@ -51,11 +51,13 @@ pub record NamesBad (words : List ℕ) (a : Answer) : Type 0 where
   -- "31 to 38 replace 2".
   pub never-2 : a .refusal ≡ 2 → ⊥
 
--- Both calls; 1 comes first.
+-- Both calls; "at its place": 1 comes first, whatever the words are.
 abbrev pub NamesFigure : Type 0
 NamesFigure =
     (pt : Parting) (pr : Proposing) (words : List ℕ) → length words ≡ 8 →
-    NamesBad words (propagateBy pt pr words) × ((run : List ℕ) → length run ≡ 36 → NamesBad words (partialsBy pt pr words run))
+    NamesBad words (propagateBy pt pr words)
+    × ((run : List ℕ) → length run ≡ 36 → NamesBad words (partialsBy pt pr words run))
+    × ((run : List ℕ) → (length run ≡ 36 → ⊥) → partialsBy pt pr words run ≡ refused 1 0)
 
 -- "initial figures that pass refusals 1 to 4": the call gets as far as the search. T-04: "H and demands 2 and 3 then speak of the reduced interval".
 pub record Searches (pt : Parting) (words : List ℕ) : Type 0 where

@@ -1,9 +1,9 @@
 -- What the definitions say of the eight words and of an orbit's start.
 use mathlib.Core.Path.{_≡_, refl, sym, _∙_, ap, subst}
 use mathlib.Core.Bool.{Bool, true, false, cond, not, true≢false}
-use mathlib.Core.List.{List}
+use mathlib.Core.List.{List, [], _∷_}
 use mathlib.Core.Logic.{_⊎_, inl, inr}
-use Prim.Native.Nat.{ℕ, _<_}
+use Prim.Native.Nat.{ℕ, zero, suc, _<_}
 use native.Mathlib.Decide.{decLe}
 use native.Mathlib.Omega.{arith}
 use borrow.Author.Tests.{not-true, not-false, eq-eqb, ne-eqb, le-leb, lt-leb, ltb-true}
@@ -68,6 +68,21 @@ module _ (words : List ℕ) (eight : length words ≡ 8) where
           → (n ≡ figureRefusal first) × FirstBad words first
       go true e h = (cc, bad-first e)
       go false e h = absurd (let z : _≡_ {A = ℕ} 0 1 = cc in omega arith)
+
+-- The first bad one of words that are written out: those before it are finite, one by one.
+abbrev pub FiniteBefore : ℕ → List ℕ → Type 0
+FiniteBefore zero ws = Unit {0}
+FiniteBefore (suc k) [] = ⊥
+FiniteBefore (suc k) (w ∷ ws) = (isFinite (ofBits binary64 w) ≡ true) × FiniteBefore k ws
+
+finite-before : (k : ℕ) (ws : List ℕ) → FiniteBefore k ws → (j : ℕ) → j < k → isFinite (doubleAt ws j) ≡ true
+finite-before zero ws f j l = absurd (omega arith)
+finite-before (suc k) [] f j l = absurd f
+finite-before (suc k) (w ∷ ws) f zero l = f .0
+finite-before (suc k) (w ∷ ws) f (suc j) l = finite-before k ws (f .1) j (omega arith)
+
+pub first-at : (words : List ℕ) (k : ℕ) → k < 8 → FiniteBefore k words → isFinite (doubleAt words k) ≡ false → FirstBad words k
+first-at words k l f b = record { one-of-eight = l; bad = b; none-before = finite-before k words f }
 
 -- ---- Refusals 3 and 4 are all that an orbit gets.
 pub three-or-four : (o : Orbit) (n : ℕ) → begunOf o ≡ begun.Refused n → (n ≡ 3) ⊎ (n ≡ 4)

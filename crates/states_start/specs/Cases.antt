@@ -15,7 +15,7 @@ use Rattle.states_start.specs.Initial.{dot, begunOf, firstStepOf}
 use Rattle.states_start.specs.declared.figures.Read.the-variants as read
 use Rattle.states_start.specs.declared.figures.Begun.the-variants as begun
 
--- ---- T-05: "31 to 38 .. in the order μ, x, y, z, vx, vy, vz, τ".
+-- ---- T-05: 31 to 38, "in the order μ, x, y, z, vx, vy, vz, τ".
 abbrev infinite : ℕ
 infinite = 0x7ff0000000000000
 
