@@ -246,15 +246,15 @@ static const char *const NANS[8] = {
     "NaNs from vx on", "NaNs from vy on", "NaNs from vz on", "a NaN for tau"
 };
 
-static const char *figure(int first)
+static const char *figure(size_t first)
 {
     struct orbit bad = { NULL, { 0 }, { 0 } };
-    int i;
+    size_t i;
 
     bad.name = NANS[first];
     for (i = 0; i < 8; i++)
         bad.given[i] = i < first ? LOW_ORBIT->given[i] : NAN_WORD;
-    bad.right[KELUBASHI_REFUSAL] = (uint64_t)(31 + first);
+    bad.right[KELUBASHI_REFUSAL] = 31 + first;
     return orbit(&bad);
 }
 
@@ -538,7 +538,7 @@ const char *kelubashi_selfcheck(void)
     for (i = 0; wrong == NULL && i < sizeof ORBITS / sizeof ORBITS[0]; i++)
         wrong = orbit(&ORBITS[i]);
     for (i = 0; wrong == NULL && i < 8; i++)
-        wrong = figure((int)i);
+        wrong = figure(i);
     if (wrong == NULL)
         wrong = partials(KELUBASHI_PARTIALS, 0);
     if (wrong == NULL)

@@ -131,7 +131,7 @@ uint64_t kelubashi1_root(uint64_t word, uint64_t *answer, size_t n);
 **
 **  Refusals: the first that applies in the order 60, 31 to 38, 3 to 8. 31 to 38 tell which of the eight is
 **  infinite or a NaN: the first in the order mu, x, y, z, vx, vy, vz, tau. They stand in the place of 2,
-**  which libraries before gave for all of them. "Too large" of 4 is said of distance, speed, energy and
+**  which earlier libraries gave for all of them. "Too large" of 4 is said of distance, speed, energy and
 **  the first step.
 */
 KELUBASHI_STATUS
