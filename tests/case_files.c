@@ -1,9 +1,9 @@
 /*
-**  Document 01's file cases through the C face: P10's whole result file, P6 to P12 as the requests of
-**  one file, 16 centres and 17, a file one byte short and one long, every refusal from 21 to 27, rooms
-**  too small and larger, and answer runs of other lengths.
+**  The documents' file cases through the C face: P10's whole result file, P6 to P12 as the requests of
+**  one file, requests with a word that is not finite (T-05), 16 centres and 17, a file one byte short and
+**  one long, every refusal from 21 to 27, rooms too small and larger, and answer runs of other lengths.
 **
-**  What is expected comes from document 01 alone: its own words, its rules for a refusal and its place,
+**  What is expected comes from the documents alone: their own words, their rules for a refusal and its place,
 **  and places counted by hand. Words are taken by the header's names, so these are tried too.
 */
 #include "expected.h"
@@ -93,7 +93,7 @@ static void marked(void)
     static const uint64_t rows[2 + REQUESTS * KELUBASHI_ROW] = {
         1, REQUESTS,
         3, 0, 0, 0, 0, 0, 0, 0, 0, 0, 0,
-        2, 0, 0, 0, 0, 0, 0, 0, 0, 0, 0,
+        32, 0, 0, 0, 0, 0, 0, 0, 0, 0, 0,
         3, 0, 0, 0, 0, 0, 0, 0, 0, 0, 0,
         4, 0, 0, 0, 0, 0, 0, 0, 0, 0, 0,
         0, 21, ONE, 0, 0, 0, 0, 0, MINUS_ZERO, MINUS_ZERO, MINUS_ZERO,
@@ -107,6 +107,43 @@ static void marked(void)
     file_of_runs();
     writes_file("P6 to P12", file.length + TAIL);
     writes_results("P6 to P12", rows, sizeof rows / sizeof rows[0]);
+}
+
+/* ---- T-05: one word of each request is not finite: mu of its centre, x to vz and the epoch of its state, its time ---- */
+
+#define BAD 9
+
+static void bad_runs(void)
+{
+    static const size_t word[BAD] = { 0, 2, 3, 4, 5, 6, 7, 1, 0 };     /* of the state, or 0 */
+    size_t i;
+
+    runs_of(2, BAD * KELUBASHI_STATE, BAD * KELUBASHI_REQUEST);
+    runs.centres[1] = kelubashi_word(NAN);
+    for (i = 0; i < BAD; i++) {
+        uint64_t *state = runs.states + KELUBASHI_STATE * i;
+
+        state[0] = i == 0;
+        state[2] = ONE;
+        if (word[i] != 0)
+            state[word[i]] = kelubashi_word(i % 2 == 0 ? NAN : -INFINITY);
+        runs.requests[KELUBASHI_REQUEST * i] = i;
+    }
+    runs.requests[KELUBASHI_REQUEST * BAD - 1] = kelubashi_word(INFINITY);
+}
+
+static void bad_words(void)
+{
+    static const uint64_t numbers[BAD] = { 31, 32, 33, 34, 35, 36, 37, 38, 38 };
+    uint64_t rows[2 + BAD * KELUBASHI_ROW] = { 1, BAD };
+    size_t i;
+
+    for (i = 0; i < BAD; i++)
+        rows[2 + KELUBASHI_ROW * i] = numbers[i];
+    bad_runs();
+    file_of_runs();
+    writes_file("T-05", file.length + TAIL);
+    writes_results("T-05", rows, sizeof rows / sizeof rows[0]);
 }
 
 /* ---- the limits ---- */
@@ -249,12 +286,13 @@ int main(void)
 
     p10();
     marked();
+    bad_words();
     limits();
     for (i = 0; i < sizeof DAMAGES / sizeof DAMAGES[0]; i++)
         damaged(DAMAGES + i);
     for (i = 0; i < sizeof FAULTS / sizeof FAULTS[0]; i++)
         faulty(FAULTS + i);
     other_answers();
-    printf("case_files: P10's whole result file, the limits, every refusal's place: %u calls, none differs\n", calls);
+    printf("case_files: P10's whole result file, bad words, the limits, every refusal's place: %u calls, none differs\n", calls);
     return EXIT_SUCCESS;
 }
