@@ -1,4 +1,3 @@
 -- Laws of the C face, for every entry point; then what each leaves open.
 pub mod Face
-pub mod Named
 pub mod OneAnswers

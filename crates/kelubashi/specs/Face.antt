@@ -1,16 +1,11 @@
 -- Every entry point returns a refusal's number, or 0, and writes its whole answer run, refused or not: the run is the answer itself.
 -- 60, the project's own number, stands before all else: the answer run is not exactly as long as the answer, and nothing is written.
-use mathlib.Core.Path.{_≡_}
-use mathlib.Core.Bool.{true, false, not}
+use mathlib.Core.Bool.{not}
 use mathlib.Core.List.{List, [], _∷_}
 use Prim.Native.Nat.{ℕ}
 use lib.Dec.{eqb}
-use lib.Ieee.{binary64, ofBits}
 use lib.ListN.{length, getD}
 use Rattle.bits.specs.Choice.{pick}
-use Rattle.bits.specs.Arithmetic.{isFinite}
-use Rattle.states.specs.Call.{propagateOf}
-use Rattle.states.specs.WithPartials.{partialsOf}
 use Rattle.files_reader.specs.Reader.{readingOf}
 use Rattle.files_reader.specs.declared.Reading.{Reading}
 use Rattle.files_reader.specs.declared.Reading.the-variants as reading
@@ -32,34 +27,6 @@ answerAfter n run answer = pick (not (eqb (length run) n)) run answer
 -- What a lent run behind the answer run holds afterwards: 60 leaves it as it was.
 abbrev pub lentBehind : ℕ → List ℕ → (lent after : List ℕ) → List ℕ
 lentBehind n run lent after = pick (not (eqb (length run) n)) lent after
-
--- The eight words of a call, in order.
-abbrev pub orbitWords : (mu x y z vx vy vz tau : ℕ) → List ℕ
-orbitWords mu x y z vx vy vz tau = mu ∷ x ∷ y ∷ z ∷ vx ∷ vy ∷ vz ∷ tau ∷ []
-
--- T-05: "Give the first bad one by name, in the order μ, x, y, z, vx, vy, vz, τ." What a call refuses of its eight arguments.
-abbrev pub Finite : ℕ → Type 0
-Finite word = isFinite (ofBits binary64 word) ≡ true
-
-abbrev pub Bad : ℕ → Type 0
-Bad word = isFinite (ofBits binary64 word) ≡ false
-
-pub record ByName (mu x y z vx vy vz tau refusal : ℕ) : Type 0 where
-  pub bad-mu : Bad mu → refusal ≡ 31
-  pub bad-x : Finite mu → Bad x → refusal ≡ 32
-  pub bad-y : Finite mu → Finite x → Bad y → refusal ≡ 33
-  pub bad-z : Finite mu → Finite x → Finite y → Bad z → refusal ≡ 34
-  pub bad-vx : Finite mu → Finite x → Finite y → Finite z → Bad vx → refusal ≡ 35
-  pub bad-vy : Finite mu → Finite x → Finite y → Finite z → Finite vx → Bad vy → refusal ≡ 36
-  pub bad-vz : Finite mu → Finite x → Finite y → Finite z → Finite vx → Finite vy → Bad vz → refusal ≡ 37
-  pub bad-tau : Finite mu → Finite x → Finite y → Finite z → Finite vx → Finite vy → Finite vz → Bad tau → refusal ≡ 38
-
-abbrev pub CallsName : Type 0
-CallsName =
-    (mu x y z vx vy vz tau : ℕ) →
-    let words = orbitWords mu x y z vx vy vz tau in
-    ByName mu x y z vx vy vz tau (propagateOf words .refusal)
-    × ((run : List ℕ) → length run ≡ 36 → ByName mu x y z vx vy vz tau (partialsOf words run .refusal))
 
 -- The reader's answer: number, place, then place and count of centres, states, requests. The place is 0 where the file is accepted, the last six are 0 where
 -- it is refused.

@@ -3,13 +3,13 @@
 ghost use mathlib.Core.Path.{_≡_};
 ghost use mathlib.Core.List.{[], _∷_};
 ghost use Rattle.bits.specs.Root.{rootRefusalOf, rootWordOf};
-ghost use Rattle.states.specs.Call.{answerWords, propagateOf};
+ghost use Rattle.states.specs.Call.{orbitWords, answerWords, propagateOf};
 ghost use Rattle.states.specs.WithPartials.{partialsOf, lentOf};
 ghost use Rattle.files_words.specs.Bytes.{put};
 ghost use Rattle.files_results.specs.Results.{outcomeOf, resultFile};
 ghost use lib.ListN.{length};
 ghost use Rattle.files_summary.specs.Changes.{entryWidth, summaryRefusal, summaryList, appendBeside, appendRunBeside, withdrawBeside, withdrawRunBeside, settledBy, putEntry};
-ghost use Rattle.kelubashi.specs.Face.{returned, answerAfter, orbitWords, lentBehind, readWords, resultsWords, numberIn, writeNumber, writeAnswer, writeRoom, changeWords};
+ghost use Rattle.kelubashi.specs.Face.{returned, answerAfter, lentBehind, readWords, resultsWords, numberIn, writeNumber, writeAnswer, writeRoom, changeWords};
 
 mod answers;
 

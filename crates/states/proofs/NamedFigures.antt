@@ -19,7 +19,7 @@ use Rattle.states_revolutions.specs.declared.figures.Interval.{Interval}
 use Rattle.states_arcs.specs.Results.{resultsOf, endedOf}
 use Rattle.states_arcs.specs.declared.figures.Results.{Results}
 use Rattle.states_arcs.proofs.EndLaws.{seven-or-eight}
-use Rattle.states_start.specs.Given.{figureRefusal, readOf, FirstBad}
+use Rattle.states_start.specs.Given.{doubleAt, figureRefusal, readOf, FirstBad}
 use Rattle.states_start.specs.Initial.{begunOf, firstStepOf}
 use Rattle.states_start.specs.declared.figures.Orbit.{Orbit}
 use Rattle.states_start.specs.declared.figures.Start.{Start}
@@ -27,10 +27,10 @@ use Rattle.states_start.specs.declared.figures.Read.{Read}
 use Rattle.states_start.specs.declared.figures.Read.the-variants as read
 use Rattle.states_start.specs.declared.figures.Begun.{Begun}
 use Rattle.states_start.specs.declared.figures.Begun.the-variants as begun
-use Rattle.states_start.proofs.StartLaws.{names-first, first-bad, refused-first, three-or-four}
-use Rattle.states.specs.Call.{Parting, refused, answered, reachedFound, reachedOverBy, reachedFromBy, reachedBegunBy, reachedOrbitBy, reachedReadBy, reachedWordsBy, answerFrom, propagateBy}
+use Rattle.states_start.proofs.StartLaws.{names-first, first-bad, refused-first, FiniteBefore, first-at, three-or-four}
+use Rattle.states.specs.Call.{Parting, refused, answered, orbitWords, reachedFound, reachedOverBy, reachedFromBy, reachedBegunBy, reachedOrbitBy, reachedReadBy, reachedWordsBy, answerFrom, propagateBy}
 use Rattle.states.specs.WithPartials.{partialsFrom, partialsBy}
-use Rattle.states.specs.CallPromise.{NamesBad, NamesFigure}
+use Rattle.states.specs.CallPromise.{NamesBad, NamesFigure, ByName, CallsName}
 use Rattle.states.specs.declared.figures.Reached.{Reached}
 use Rattle.states.specs.declared.figures.Reached.the-variants as reached
 use Rattle.states.specs.declared.figures.Answer.{Answer}
@@ -148,4 +148,33 @@ names-figure pt pr words eight =
           (λ n e. rw (eq-eqb (length run) 36 h) (ap (λ (y : Reached). partialsFrom y run) (reached-figure pt pr words n e)))
           (λ o whole e. rw (eq-eqb (length run) 36 h) (partials-other x run h (reached-other pt pr words o whole e))),
       λ run h. rw (ne-eqb (length run) 36 h),
+    )
+
+-- ---- By name.
+module _ (mu x y z vx vy vz tau : ℕ) (a : Answer) (names : NamesBad (orbitWords mu x y z vx vy vz tau) a) where
+  abbrev eight : List ℕ
+  eight = orbitWords mu x y z vx vy vz tau
+
+  numbered : (k : ℕ) → k < 8 → FiniteBefore k eight → isFinite (doubleAt eight k) ≡ false → a .refusal ≡ figureRefusal k
+  unfolding refused
+  numbered k l f b = ap (λ (r : Answer). r .refusal) (names .named k (first-at eight k l f b))
+
+  by-name : ByName mu x y z vx vy vz tau (a .refusal)
+  by-name =
+      record {
+        bad-mu = λ b. numbered 0 (omega arith) tt b;
+        bad-x = λ m b. numbered 1 (omega arith) (m, tt) b;
+        bad-y = λ m p b. numbered 2 (omega arith) (m, (p, tt)) b;
+        bad-z = λ m p q b. numbered 3 (omega arith) (m, (p, (q, tt))) b;
+        bad-vx = λ m p q r b. numbered 4 (omega arith) (m, (p, (q, (r, tt)))) b;
+        bad-vy = λ m p q r u b. numbered 5 (omega arith) (m, (p, (q, (r, (u, tt))))) b;
+        bad-vz = λ m p q r u v b. numbered 6 (omega arith) (m, (p, (q, (r, (u, (v, tt)))))) b;
+        bad-tau = λ m p q r u v w b. numbered 7 (omega arith) (m, (p, (q, (r, (u, (v, (w, tt))))))) b;
+      }
+
+pub calls-name : CallsName
+calls-name pt pr mu x y z vx vy vz tau =
+    let names = names-figure pt pr (orbitWords mu x y z vx vy vz tau) refl in (
+      by-name mu x y z vx vy vz tau (propagateBy pt pr (orbitWords mu x y z vx vy vz tau)) (names .0),
+      λ run h. by-name mu x y z vx vy vz tau (partialsBy pt pr (orbitWords mu x y z vx vy vz tau) run) (names .1 run h),
     )

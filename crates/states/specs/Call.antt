@@ -1,7 +1,7 @@
 -- Document 01, "Refusals in order of checking", for the call without partials and what the two calls share: "A refusal carries the trial points used so far (0
 -- for 1 to 4 and 9), all other figures +0; lent memory keeps its bytes. The first that applies is given, and none otherwise." Since T-05, 31 to 38 stand in the place of 2.
 use mathlib.Core.Bool.{not}
-use mathlib.Core.List.{List, _∷_}
+use mathlib.Core.List.{List, [], _∷_}
 use Prim.Native.Nat.{ℕ}
 use Rattle.bits.specs.Choice.{pick}
 use Rattle.bits.specs.Arithmetic.{n0, isFinite}
@@ -82,6 +82,10 @@ reachedBegunBy pt pr (begun.Start s c) whole = reachedFromBy pt pr s c whole
 
 unfoldable pub reachedOrbitBy : Parting → Proposing → Orbit → WholeInterval → Reached
 reachedOrbitBy pt pr o whole = reachedBegunBy pt pr (begunOf o) whole
+
+-- The eight words of a call, by their names.
+abbrev pub orbitWords : (mu x y z vx vy vz tau : ℕ) → List ℕ
+orbitWords mu x y z vx vy vz tau = mu ∷ x ∷ y ∷ z ∷ vx ∷ vy ∷ vz ∷ tau ∷ []
 
 -- T-05: "31 to 38 replace 2, at its place", before all others but 1.
 abbrev pub reachedReadBy : Parting → Proposing → Read → Reached

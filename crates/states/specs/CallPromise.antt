@@ -4,7 +4,7 @@ use mathlib.Core.Logic.{_⊎_}
 use mathlib.Core.Bool.{true, false}
 use mathlib.Core.List.{List}
 use Prim.Native.Nat.{ℕ, _<_, _≤_}
-use lib.Ieee.{eq}
+use lib.Ieee.{binary64, eq, ofBits}
 use lib.ListN.{length}
 use Rattle.bits.specs.Arithmetic.{n0, isFinite}
 use Rattle.bits.specs.Words.{placeOf}
@@ -21,7 +21,7 @@ use Rattle.states_revolutions.specs.declared.figures.Off.the-variants as off
 use Rattle.states_arcs.specs.Results.{arcOf, resultsOf}
 use Rattle.states_start.specs.Given.{figureRefusal, readOf, AnyBad, FirstBad}
 use Rattle.states_start.specs.Initial.{begunOf, firstStepOf}
-use Rattle.states.specs.Call.{Parting, wholly, refused, answered, noResults, propagateBy}
+use Rattle.states.specs.Call.{Parting, wholly, refused, answered, noResults, orbitWords, propagateBy}
 use Rattle.states.specs.WithPartials.{partialsBy, lentBy}
 use Rattle.states_start.specs.declared.figures.Orbit.{Orbit}
 use Rattle.states_start.specs.declared.figures.Start.{Start}
@@ -58,6 +58,30 @@ NamesFigure =
     NamesBad words (propagateBy pt pr words)
     × ((run : List ℕ) → length run ≡ 36 → NamesBad words (partialsBy pt pr words run))
     × ((run : List ℕ) → (length run ≡ 36 → ⊥) → partialsBy pt pr words run ≡ refused 1 0)
+
+-- The same by the names of the eight, and with the numbers written out: "in the order μ, x, y, z, vx, vy, vz, τ".
+abbrev pub Finite : ℕ → Type 0
+Finite word = isFinite (ofBits binary64 word) ≡ true
+
+abbrev pub Bad : ℕ → Type 0
+Bad word = isFinite (ofBits binary64 word) ≡ false
+
+pub record ByName (mu x y z vx vy vz tau refusal : ℕ) : Type 0 where
+  pub bad-mu : Bad mu → refusal ≡ 31
+  pub bad-x : Finite mu → Bad x → refusal ≡ 32
+  pub bad-y : Finite mu → Finite x → Bad y → refusal ≡ 33
+  pub bad-z : Finite mu → Finite x → Finite y → Bad z → refusal ≡ 34
+  pub bad-vx : Finite mu → Finite x → Finite y → Finite z → Bad vx → refusal ≡ 35
+  pub bad-vy : Finite mu → Finite x → Finite y → Finite z → Finite vx → Bad vy → refusal ≡ 36
+  pub bad-vz : Finite mu → Finite x → Finite y → Finite z → Finite vx → Finite vy → Bad vz → refusal ≡ 37
+  pub bad-tau : Finite mu → Finite x → Finite y → Finite z → Finite vx → Finite vy → Finite vz → Bad tau → refusal ≡ 38
+
+abbrev pub CallsName : Type 0
+CallsName =
+    (pt : Parting) (pr : Proposing) (mu x y z vx vy vz tau : ℕ) →
+    let words = orbitWords mu x y z vx vy vz tau in
+    ByName mu x y z vx vy vz tau (propagateBy pt pr words .refusal)
+    × ((run : List ℕ) → length run ≡ 36 → ByName mu x y z vx vy vz tau (partialsBy pt pr words run .refusal))
 
 -- "initial figures that pass refusals 1 to 4": the call gets as far as the search. T-04: "H and demands 2 and 3 then speak of the reduced interval".
 pub record Searches (pt : Parting) (words : List ℕ) : Type 0 where
