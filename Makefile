@@ -193,9 +193,9 @@ sanitized: build/tests/second_results
 commanded: machine command build/tests/kelubashi_faulty build/tests/second_results
 	@sh tests/command.sh 'over the library' 'sh tests/machine.sh run build/kelubashi' 'sh tests/machine.sh run build/tests/kelubashi_faulty'
 
-SECOND = $(patsubst %,build/tests/second/%.o,root series revolutions search states files summary)
+SECOND = $(patsubst %,build/tests/second/%.o,root series revolutions search states walk files summary rows)
 TRACED = $(SECOND:build/tests/second/%=build/tests/traced/%)
-SELFTEST = $(patsubst %,build/tests/second/selftest%.o,_root _calls _search _revolutions _turns _orbits _files _summary _changes _refused _bad _rows)
+SELFTEST = $(patsubst %,build/tests/second/selftest%.o,_root _calls _search _revolutions _turns _orbits _files _summary _changes _refused _bad _rows _sentence _checked _anomaly _edges _row_file)
 HEADERS = $(wildcard include/*.h command/*.h command/parts/*.h tests/*.h tests/second/*.h)
 
 # The command: plain C99 and POSIX, with no warning of conversions either.

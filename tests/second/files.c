@@ -21,33 +21,7 @@ struct contents {
     struct section centres, states, requests;
 };
 
-/* A refusal's number, or 0, with its place. */
-struct verdict {
-    uint64_t number;
-    uint64_t place;
-};
-
-/* The reader's way through the bytes; place never passes len. */
-struct walk {
-    const uint8_t *file;
-    uint64_t len;
-    uint64_t place;
-    struct verdict verdict;
-};
-
-/* ---- words ---- */
-
 /* Words are little-endian, whatever the machine. */
-static uint64_t word_at(const uint8_t *bytes, uint64_t place)
-{
-    uint64_t word = 0;
-    int i;
-
-    for (i = 7; i >= 0; i--)
-        word = word << 8 | bytes[place + (uint64_t)i];
-    return word;
-}
-
 static uint64_t put_word(uint8_t *bytes, uint64_t place, uint64_t word)
 {
     int i;
@@ -59,40 +33,21 @@ static uint64_t put_word(uint8_t *bytes, uint64_t place, uint64_t word)
 
 /* ---- reader ---- */
 
-static int refuse(struct walk *w, uint64_t number, uint64_t place)
-{
-    w->verdict.number = number;
-    w->verdict.place = place;
-    return 0;
-}
-
-/* 21: a needed word is not whole; the place is the word's first byte. */
-static int take_word(struct walk *w, uint64_t *word)
-{
-    if (w->len - w->place < 8)
-        return refuse(w, 21, w->place);
-    *word = word_at(w->file, w->place);
-    w->place += 8;
-    return 1;
-}
-
 /* 22: the edition is not 1. */
 static int take_edition(struct walk *w)
 {
     uint64_t place = w->place, edition;
 
-    if (!take_word(w, &edition))
+    if (!sec_take_word(w, &edition))
         return 0;
-    return edition == EDITION || refuse(w, 22, place);
+    return edition == EDITION || sec_refuse(w, 22, place);
 }
 
-/* 23: a count above its limit. */
+/* A section begins at its count word. */
 static int take_count(struct walk *w, uint64_t limit, struct section *section)
 {
     section->place = w->place;
-    if (!take_word(w, &section->count))
-        return 0;
-    return section->count <= limit || refuse(w, 23, section->place);
+    return sec_take_count(w, limit, &section->count);
 }
 
 /* 24: a number not in its section; numbers start at 0. */
@@ -100,26 +55,15 @@ static int take_number(struct walk *w, uint64_t count)
 {
     uint64_t place = w->place, number;
 
-    if (!take_word(w, &number))
+    if (!sec_take_word(w, &number))
         return 0;
-    return number < count || refuse(w, 24, place);
-}
-
-/* Float words may hold any bits; they need only be whole. */
-static int take_floats(struct walk *w, uint64_t count)
-{
-    uint64_t i, word;
-
-    for (i = 0; i < count; i++)
-        if (!take_word(w, &word))
-            return 0;
-    return 1;
+    return number < count || sec_refuse(w, 24, place);
 }
 
 static int take_centres(struct walk *w, struct contents *c)
 {
     return take_count(w, CENTRES_LIMIT, &c->centres)
-        && take_floats(w, c->centres.count);
+        && sec_take_floats(w, c->centres.count);
 }
 
 /* A state: its centre number, then seven floats. */
@@ -131,7 +75,7 @@ static int take_states(struct walk *w, struct contents *c)
         return 0;
     for (i = 0; i < c->states.count; i++)
         if (!take_number(w, c->centres.count)
-            || !take_floats(w, STATE_WORDS - 1))
+            || !sec_take_floats(w, STATE_WORDS - 1))
             return 0;
     return 1;
 }
@@ -145,30 +89,19 @@ static int take_requests(struct walk *w, struct contents *c)
         return 0;
     for (i = 0; i < c->requests.count; i++)
         if (!take_number(w, c->states.count)
-            || !take_floats(w, REQUEST_WORDS - 1))
+            || !sec_take_floats(w, REQUEST_WORDS - 1))
             return 0;
     return 1;
 }
 
-/* 25: bytes left after the last section; the place is the first of them. */
-static int take_end(struct walk *w)
-{
-    return w->place == w->len || refuse(w, 25, w->place);
-}
-
-static struct verdict read_file(const uint8_t *file, uint64_t len,
+static struct refusal read_file(const uint8_t *file, uint64_t len,
                                 struct contents *c)
 {
-    struct walk w;
+    struct walk w = sec_walk(file, len);
 
-    w.file = file;
-    w.len = len;
-    w.place = 0;
-    w.verdict.number = 0;
-    w.verdict.place = 0;
     (void)(take_edition(&w) && take_centres(&w, c) && take_states(&w, c)
-           && take_requests(&w, c) && take_end(&w));
-    return w.verdict;
+           && take_requests(&w, c) && sec_take_end(&w));
+    return w.refusal;
 }
 
 /* Number and place, then the sections, which are 0 in a refusal. */
@@ -176,18 +109,18 @@ uint64_t second_read(const uint8_t *file, size_t len,
                      uint64_t *answer, size_t n)
 {
     struct contents c;
-    struct verdict v;
+    struct refusal refusal;
     int i;
 
     if (n != 8)
         return WRONG_ANSWER_RUN;
-    v = read_file(file, len, &c);
+    refusal = read_file(file, len, &c);
     for (i = 2; i < 8; i++)
         answer[i] = 0;
-    answer[0] = v.number;
-    answer[1] = v.place;
-    if (v.number != 0)
-        return v.number;
+    answer[0] = refusal.number;
+    answer[1] = refusal.place;
+    if (refusal.number != 0)
+        return refusal.number;
     answer[2] = c.centres.place;
     answer[3] = c.centres.count;
     answer[4] = c.states.place;
@@ -206,25 +139,16 @@ struct runs {
     struct contents at;
 };
 
-static struct verdict say(uint64_t number, uint64_t place)
-{
-    struct verdict v;
-
-    v.number = number;
-    v.place = place;
-    return v;
-}
-
 /* 27: a run is not whole records; the place is the section, 0 to 2. */
-static struct verdict check_whole(const struct runs *r)
+static struct refusal check_whole(const struct runs *r)
 {
     if (r->centre_words % CENTRE_WORDS != 0)
-        return say(27, 0);
+        return sec_say(27, 0);
     if (r->state_words % STATE_WORDS != 0)
-        return say(27, 1);
+        return sec_say(27, 1);
     if (r->request_words % REQUEST_WORDS != 0)
-        return say(27, 2);
-    return say(0, 0);
+        return sec_say(27, 2);
+    return sec_say(0, 0);
 }
 
 /* Each section begins at its count word, behind the section before it. */
@@ -239,19 +163,19 @@ static void lay_out(struct runs *r)
 }
 
 /* 23: the first count in file order above its limit. */
-static struct verdict check_counts(const struct contents *at)
+static struct refusal check_counts(const struct contents *at)
 {
     if (at->centres.count > CENTRES_LIMIT)
-        return say(23, at->centres.place);
+        return sec_say(23, at->centres.place);
     if (at->states.count > STATES_LIMIT)
-        return say(23, at->states.place);
+        return sec_say(23, at->states.place);
     if (at->requests.count > REQUESTS_LIMIT)
-        return say(23, at->requests.place);
-    return say(0, 0);
+        return sec_say(23, at->requests.place);
+    return sec_say(0, 0);
 }
 
 /* The first record of a section whose number is not below the limit. */
-static struct verdict check_section(const uint64_t *run, uint64_t record,
+static struct refusal check_section(const uint64_t *run, uint64_t record,
                                     const struct section *section,
                                     uint64_t limit)
 {
@@ -259,18 +183,19 @@ static struct verdict check_section(const uint64_t *run, uint64_t record,
 
     for (i = 0; i < section->count; i++)
         if (run[record * i] >= limit)
-            return say(24, section->place + 8 + 8 * record * i);
-    return say(0, 0);
+            return sec_say(24, section->place + 8 + 8 * record * i);
+    return sec_say(0, 0);
 }
 
 /* 24: the first number in file order that is not in its section. */
-static struct verdict check_numbers(const struct runs *r)
+static struct refusal check_numbers(const struct runs *r)
 {
-    struct verdict v = check_section(r->states, STATE_WORDS, &r->at.states,
-                                     r->at.centres.count);
+    struct refusal refusal =
+        check_section(r->states, STATE_WORDS, &r->at.states,
+                      r->at.centres.count);
 
-    if (v.number != 0)
-        return v;
+    if (refusal.number != 0)
+        return refusal;
     return check_section(r->requests, REQUEST_WORDS, &r->at.requests,
                          r->at.states.count);
 }
@@ -282,20 +207,20 @@ static uint64_t file_length(const struct runs *r)
 
 /* The writer's refusals, in the order 27, 23, 24, 26; for 26 the place is the
  * length needed.  With number 0 the place is the length. */
-static struct verdict check_runs(struct runs *r, uint64_t room_len)
+static struct refusal check_runs(struct runs *r, uint64_t room_len)
 {
-    struct verdict v = check_whole(r);
+    struct refusal refusal = check_whole(r);
 
-    if (v.number != 0)
-        return v;
+    if (refusal.number != 0)
+        return refusal;
     lay_out(r);
-    v = check_counts(&r->at);
-    if (v.number != 0)
-        return v;
-    v = check_numbers(r);
-    if (v.number != 0)
-        return v;
-    return say(room_len < file_length(r) ? 26 : 0, file_length(r));
+    refusal = check_counts(&r->at);
+    if (refusal.number != 0)
+        return refusal;
+    refusal = check_numbers(r);
+    if (refusal.number != 0)
+        return refusal;
+    return sec_say(room_len < file_length(r) ? 26 : 0, file_length(r));
 }
 
 static uint64_t put_section(uint8_t *room, uint64_t place, uint64_t count,
@@ -329,7 +254,7 @@ uint64_t second_write(const uint64_t *centres, size_t centre_words,
                       uint64_t *answer, size_t n)
 {
     struct runs r;
-    struct verdict v;
+    struct refusal refusal;
 
     if (n != 2)
         return WRONG_ANSWER_RUN;
@@ -339,12 +264,12 @@ uint64_t second_write(const uint64_t *centres, size_t centre_words,
     r.state_words = state_words;
     r.requests = requests;
     r.request_words = request_words;
-    v = check_runs(&r, room_len);
-    if (v.number == 0)
+    refusal = check_runs(&r, room_len);
+    if (refusal.number == 0)
         put_file(&r, room);
-    answer[0] = v.number;
-    answer[1] = v.place;
-    return v.number;
+    answer[0] = refusal.number;
+    answer[1] = refusal.place;
+    return refusal.number;
 }
 
 /* ---- results ---- */
@@ -358,7 +283,7 @@ static uint64_t record_place(const struct section *section, uint64_t words,
 
 static double float_at(const uint8_t *file, uint64_t place)
 {
-    return sec_double(word_at(file, place));
+    return sec_double(sec_word_at(file, place));
 }
 
 /* One request: its state, that state's centre, and tau = time - epoch. */
@@ -367,9 +292,9 @@ static struct answer answer_request(const uint8_t *file,
 {
     uint64_t request = record_place(&c->requests, REQUEST_WORDS, i);
     uint64_t state = record_place(&c->states, STATE_WORDS,
-                                  word_at(file, request));
+                                  sec_word_at(file, request));
     uint64_t centre = record_place(&c->centres, CENTRE_WORDS,
-                                   word_at(file, state));
+                                   sec_word_at(file, state));
     double eight[8];
     int j;
 
@@ -422,17 +347,18 @@ uint64_t second_results(const uint8_t *file, size_t len,
                         uint64_t *answer, size_t n)
 {
     struct contents c;
-    struct verdict v;
+    struct refusal refusal;
 
     if (n != 2)
         return WRONG_ANSWER_RUN;
-    v = read_file(file, len, &c);
+    refusal = read_file(file, len, &c);
     answer[0] = 0;
-    answer[1] = v.number != 0 ? 24 : 16 + 8 * ROW_WORDS * c.requests.count;
+    answer[1] = refusal.number != 0
+        ? 24 : 16 + 8 * ROW_WORDS * c.requests.count;
     if (room_len < answer[1])
         return answer[0] = 26;
-    if (v.number != 0)
-        put_refused(room, v.number);
+    if (refusal.number != 0)
+        put_refused(room, refusal.number);
     else
         put_rows(file, &c, room);
     return 0;

@@ -85,6 +85,25 @@ struct whole sec_wound(const struct start *s, const struct figures *at,
 
 /* ---- search ---- */
 
+enum sort { SHORT, PAST, EXACT, UNREADABLE };
+
+/* A trial point; psi, error and radius are of no use where it is unreadable. */
+struct point {
+    enum sort sort;
+    uint64_t place;
+    double psi;
+    double error;
+    double radius;
+};
+
+uint64_t sec_place(double psi);
+/* The point at a place; its psi has the sign of the searched interval, which
+ * is no zero. */
+struct point sec_sorted(const struct start *s, uint64_t place);
+/* T-01: the one of the two that is answered, low short and high past. */
+const struct point *sec_nearer(const struct point *low,
+                               const struct point *high);
+
 struct found {
     unsigned refusal; /* 0, 5 or 6 */
     uint64_t points;
@@ -105,8 +124,40 @@ struct answer {
     double psi;
 };
 
+/* What is answered at a readable anomaly, without partials and with points 0;
+ * the refusal is 0, 7 or 8. */
+struct answer sec_results(const struct start *s, double psi);
+/* The fifteen words of an answer; the first eleven are a result row. */
+void sec_put(const struct answer *a, uint64_t words[15]);
+
 /* partials is null when they are not asked for; else room for 36, filled
  * only when nothing is refused. */
 struct answer sec_propagate(const double eight[8], double *partials);
+
+/* ---- files ---- */
+
+/* A refusal's number, or 0, with its place. */
+struct refusal {
+    uint64_t number;
+    uint64_t place;
+};
+
+/* The reader's way through the bytes; place never passes len. */
+struct walk {
+    const uint8_t *file;
+    uint64_t len;
+    uint64_t place;
+    struct refusal refusal;
+};
+
+uint64_t sec_word_at(const uint8_t *bytes, uint64_t place);
+struct refusal sec_say(uint64_t number, uint64_t place);
+struct walk sec_walk(const uint8_t *file, uint64_t len); /* at its first byte */
+/* Each of these is 1, and the walk goes on; or it is 0 and the refusal's. */
+int sec_refuse(struct walk *w, uint64_t number, uint64_t place);
+int sec_take_word(struct walk *w, uint64_t *word);
+int sec_take_count(struct walk *w, uint64_t limit, uint64_t *count);
+int sec_take_floats(struct walk *w, uint64_t count);
+int sec_take_end(struct walk *w);
 
 #endif

@@ -5,16 +5,6 @@
 #define PLACE_LIMIT (2047u * STEP)
 #define OUTWARD_POINTS 41u
 
-enum sort { SHORT, PAST, EXACT, UNREADABLE };
-
-struct point {
-    enum sort sort;
-    uint64_t place;
-    double psi;
-    double error;
-    double radius;
-};
-
 struct search {
     const struct start *s;
     uint64_t points;
@@ -31,7 +21,7 @@ static double psi_at(const struct start *s, uint64_t place)
     return sec_negative(s->searched) ? sec_flip(psi) : psi;
 }
 
-static uint64_t place_of(double psi)
+uint64_t sec_place(double psi)
 {
     return sec_word(sec_size(psi));
 }
@@ -71,7 +61,7 @@ static int unreadable_place(const struct start *s, uint64_t place)
 }
 
 /* A trial point, sorted in the document's order. */
-static struct point sorted(const struct start *s, uint64_t place)
+struct point sec_sorted(const struct start *s, uint64_t place)
 {
     struct point p = place_zero(s);
     struct figures g;
@@ -94,7 +84,7 @@ static struct point sorted(const struct start *s, uint64_t place)
 /* Every place that is sorted is one point, evaluated or not. */
 static enum sort try_place(struct search *q, uint64_t place)
 {
-    q->last = sorted(q->s, place);
+    q->last = sec_sorted(q->s, place);
     q->points++;
     return q->last.sort;
 }
@@ -103,7 +93,7 @@ static enum sort try_place(struct search *q, uint64_t place)
  * short.  The point before it, or place 0 when k = 0, stays as the low end. */
 static enum sort outward(struct search *q)
 {
-    uint64_t first = place_of(q->s->h);
+    uint64_t first = sec_place(q->s->h);
     unsigned k;
 
     q->low = place_zero(q->s);
@@ -123,8 +113,8 @@ static int fits(const struct search *q, double psi)
 {
     return sec_finite(psi)
         && sec_negative(psi) == sec_negative(q->s->searched)
-        && place_of(psi) > q->low.place
-        && place_of(psi) < q->high.place;
+        && sec_place(psi) > q->low.place
+        && sec_place(psi) < q->high.place;
 }
 
 /* First proposal: psi - R/r of the last tried point. */
@@ -165,7 +155,7 @@ static int proposal(const struct search *q, uint64_t *place)
 
     if (!by_radius(q, &psi) && !by_interval(q, &psi) && !by_ends(q, &psi))
         return 0;
-    *place = place_of(psi);
+    *place = sec_place(psi);
     return 1;
 }
 
@@ -229,13 +219,14 @@ static int tie(const struct point *low, const struct point *high)
 
 /* T-01: of a pair, the end whose error has the smaller size; the short one on
  * a tie.  It asks nothing of how the pair was found. */
-static double nearer(const struct point *low, const struct point *high)
+const struct point *sec_nearer(const struct point *low,
+                               const struct point *high)
 {
     if (tie(low, high))
-        return low->psi;
+        return low;
     if (sec_size(high->error) < sec_size(low->error))
-        return high->psi;
-    return low->psi;
+        return high;
+    return low;
 }
 
 static struct found close_search(unsigned refusal, uint64_t points, double psi)
@@ -268,5 +259,5 @@ struct found sec_search(const struct start *s)
         return close_search(6, q.points, 0.0);
     if (sort == EXACT)
         return close_search(0, q.points, q.last.psi);
-    return close_search(0, q.points, nearer(&q.low, &q.high));
+    return close_search(0, q.points, sec_nearer(&q.low, &q.high)->psi);
 }

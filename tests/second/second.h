@@ -42,6 +42,14 @@ uint64_t second_results(const uint8_t *file, size_t len,
                         uint8_t *room, size_t room_len,
                         uint64_t *answer, size_t n);
 
+/* Another station's rows: a count of 0 to 400, then 18 words a row, which are
+ * mu, x, y, z, vx, vy, vz, tau, psi, position, velocity, end acceleration.
+ * verdicts: a word a row, 1 yes or 0 no; those of its k words behind them stay.
+ * n = 2: number, then the place of the refusal, or the rows, for 26 too. */
+uint64_t second_check(const uint8_t *file, size_t length,
+                      uint64_t *verdicts, size_t k,
+                      uint64_t *answer, size_t n);
+
 /* The summary beside the states.  words = 4000, a section of 500 records with
  * the first count of them in use; k = four times centres, for each centre the
  * states with an epoch that is a number, those with a NaN, earliest, latest.

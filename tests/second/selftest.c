@@ -1,6 +1,6 @@
 /* Self-test: the document's marked cases, its "Run:" cases, every bad figure,
- * every refusal of the files and of the summary, and the physics on random
- * orbits.
+ * every refusal of the files and of the summary, the physics on random orbits,
+ * and rows to be checked, right ones and wrong ones.
  * Expectations come from the documents' rules and from mechanics, never from a
  * run of this program. */
 #include "selftest.h"
@@ -142,6 +142,10 @@ int main(void)
     selftest_refused();
     selftest_bad();
     selftest_rows();
+    selftest_checked();
+    selftest_anomaly();
+    selftest_edges();
+    selftest_row_file();
     printf("second program: %lu checks, %lu faults\n", checks, faults);
     return faults != 0;
 }

@@ -31,9 +31,14 @@ void fill(uint64_t *run, size_t count);
 int kept(const uint64_t *run, size_t count);
 int kept_bytes(const uint8_t *run, size_t count);
 uint64_t get64(const uint8_t *at); /* a file's word */
+void put64(uint8_t *at, uint64_t word);
 
 /* A random start: kind 0 ellipse, 1 hyperbola, 2 repelling, 3 no pull. */
 void orbit(double e[8], int kind, double mu, double r);
+/* How far a psi, by its word, is past the searched interval: below zero where
+ * it is short, and NaN where it is unreadable. */
+struct start;
+double beyond(const struct start *s, uint64_t psi);
 /* The period of an ellipse, by Kepler's third law from its major axis. */
 double turn_time(const double e[8]);
 
@@ -50,5 +55,9 @@ void selftest_changes(void);
 void selftest_refused(void);
 void selftest_bad(void);
 void selftest_rows(void);
+void selftest_checked(void);
+void selftest_anomaly(void);
+void selftest_edges(void);
+void selftest_row_file(void);
 
 #endif

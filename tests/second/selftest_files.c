@@ -12,7 +12,7 @@ static uint8_t bytes[FILE_LIMIT + 64], again[FILE_LIMIT + 64];
 static uint8_t rows[16 + 88 * 1500 + 64];
 static uint64_t centres[17], states[501 * 8], requests[1501 * 2];
 
-static void put64(uint8_t *at, uint64_t word)
+void put64(uint8_t *at, uint64_t word)
 {
     int i;
 

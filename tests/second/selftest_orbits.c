@@ -8,12 +8,17 @@
 #include <stdio.h>
 #include <string.h>
 
-/* The time error at a place, above zero where it is past; it is that of the
- * searched interval, as all of the search. */
-static double beyond(const struct start *s, uint64_t psi)
+/* The time error, with its sign turned where the interval is below zero; at
+ * place 0 it is minus the interval. */
+double beyond(const struct start *s, uint64_t psi)
 {
-    double error = sec_figures(s, sec_double(psi)).error;
+    double value = sec_double(psi), error;
 
+    if (sec_zero(value))
+        return -fabs(s->searched);
+    if (!sec_finite(value) || !sec_finite(sec_length(s, value)))
+        return sec_double(NAN_WORD);
+    error = sec_figures(s, value).error;
     return sec_negative(s->searched) ? -error : error;
 }
 

@@ -114,6 +114,26 @@ static int finite_answer(const struct answer *a)
         && all_finite(a->start_acceleration, 3) && sec_finite(a->psi);
 }
 
+/* Refusal 7 when r is not above zero (a NaN is not), then 8, both halves. */
+static struct answer allowed(const struct motion *m, uint64_t points)
+{
+    struct answer a;
+
+    if (!(m->r > 0.0))
+        return refused(7, points);
+    a = results(m, points);
+    if (zero_divisor(m) || !finite_answer(&a))
+        return refused(8, points);
+    return a;
+}
+
+struct answer sec_results(const struct start *s, double psi)
+{
+    struct motion m = moved(s, psi);
+
+    return allowed(&m, 0);
+}
+
 /* U = s2 tau + (mu (c4 - 3 c5)) ((((psi psi) psi) psi) psi), where no
  * revolution came off. */
 static double universal(const struct motion *m)
@@ -210,8 +230,8 @@ static int partials(const struct motion *m, const struct answer *a,
     return all_finite(run, 36);
 }
 
-/* Refusals 31 to 38, 3 and 4, then 5 and 6 of the search, 7 when r is not
- * above zero (a NaN is not), then 8; lent memory is touched by none of them. */
+/* Refusals 31 to 38, 3 and 4, then 5 and 6 of the search, 7 and 8 of the
+ * results, 8 of the partials; lent memory is touched by none of them. */
 struct answer sec_propagate(const double eight[8], double *lent)
 {
     struct start s;
@@ -228,12 +248,8 @@ struct answer sec_propagate(const double eight[8], double *lent)
     if (found.refusal != 0)
         return refused(found.refusal, found.points);
     m = moved(&s, found.psi);
-    if (!(m.r > 0.0))
-        return refused(7, found.points);
-    a = results(&m, found.points);
-    if (zero_divisor(&m) || !finite_answer(&a))
-        return refused(8, found.points);
-    if (lent == NULL)
+    a = allowed(&m, found.points);
+    if (a.refusal != 0 || lent == NULL)
         return a;
     if (!partials(&m, &a, run))
         return refused(8, found.points);
@@ -242,8 +258,7 @@ struct answer sec_propagate(const double eight[8], double *lent)
     return a;
 }
 
-/* The fifteen words: the first eleven are a result row. */
-static void put(const struct answer *a, uint64_t *words)
+void sec_put(const struct answer *a, uint64_t words[15])
 {
     int i;
 
@@ -283,7 +298,7 @@ uint64_t second_propagate(uint64_t mu, uint64_t x, uint64_t y, uint64_t z,
         return WRONG_ANSWER_RUN;
     gather(mu, x, y, z, vx, vy, vz, tau, eight);
     a = sec_propagate(eight, NULL);
-    put(&a, answer);
+    sec_put(&a, answer);
     return a.refusal;
 }
 
@@ -304,6 +319,6 @@ uint64_t second_partials(uint64_t mu, uint64_t x, uint64_t y, uint64_t z,
     if (a.refusal == 0)
         for (i = 0; i < 36; i++)
             run[i] = sec_word(figures[i]);
-    put(&a, answer);
+    sec_put(&a, answer);
     return a.refusal;
 }

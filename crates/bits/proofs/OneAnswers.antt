@@ -28,6 +28,8 @@ use Rattle.bits.proofs.runs.has.Kinds as has-kinds
 use Rattle.bits.proofs.runs.has.Reads as has-reads
 use Rattle.bits.proofs.runs.copy_words.Kinds as copy-words-kinds
 use Rattle.bits.proofs.runs.copy_words.Reads as copy-words-reads
+use Rattle.bits.proofs.runs.are_same.Kinds as are-same-kinds
+use Rattle.bits.proofs.runs.are_same.Reads as are-same-reads
 use Rattle.bits.proofs.root.root_of.Kinds as root-of-kinds
 use Rattle.bits.proofs.root.root_of.Reads as root-of-reads
 use Rattle.bits.proofs.root.root_of_figure.Kinds as root-of-figure-kinds
@@ -71,6 +73,9 @@ has-one κs a x y v w p q = (p ∙ sym q, refl)
 
 pub copy-words-one : OneAnswer 2 copy-words-kinds.ps copy-words-kinds.r copy-words-reads.Post
 copy-words-one κs a x y v w p q = (refl, λ i. (tt, ((p ∙ sym q) i, tt)))
+
+pub are-same-one : OneAnswer 2 are-same-kinds.ps are-same-kinds.r are-same-reads.Post
+are-same-one κs a x y v w p q = (p ∙ sym q, refl)
 
 pub root-of-one : OneAnswer 0 root-of-kinds.ps root-of-kinds.r root-of-reads.Post
 root-of-one κs a x y v w p q =

@@ -1,18 +1,19 @@
--- What is known of the first word that is sought and of a run that has none, what a word says of the double that it is the word of, and a run after a copy.
-use mathlib.Core.Path.{_≡_, refl, sym, ap, subst, _∙_}
-use mathlib.Core.Bool.{Bool, true, false, not, _||_, true≢false}
+-- What is known of the first word that is sought and of a run that has none, what a word says of the double that it is the word of, a run after a copy, and
+-- two runs with the same words.
+use mathlib.Core.Path.{_≡_, refl, sym, ap, ap₂, subst, _∙_}
+use mathlib.Core.Bool.{Bool, true, false, not, _||_, _&&_, true≢false}
 use mathlib.Core.List.{List, [], _∷_}
 use Prim.Native.Nat.{ℕ, zero, suc, _+_, _<_, _≤_}
 use native.Mathlib.Omega.{arith}
 use native.Mathlib.Decide.{decLt}
-use borrow.Author.Tests.{lt-ltb, le-ltb, ltb-false, not-false, eq-eqb, ne-eqb}
-use lib.Dec.{T, ltb}
+use borrow.Author.Tests.{lt-ltb, le-ltb, ltb-false, not-false, eqb-true, eq-eqb, ne-eqb}
+use lib.Dec.{T, ltb, eqb}
 use lib.Ieee.{Float, binary64, fits, nanBits, ofBits, toBits}
 use lib.Ieee.Bits.{nanBits-is, ofBits-toBits}
 use lib.ListN.{length, getD}
 use Rattle.bits.specs.Choice.{pick}
 use Rattle.bits.specs.Words.{wordsOf}
-use Rattle.bits.specs.Runs.{isSoughtDouble, isSought, firstOf, has, anySought, AllFit, copied}
+use Rattle.bits.specs.Runs.{isSoughtDouble, isSought, firstOf, has, anySought, AllFit, copied, sameWords}
 use Rattle.bits.specs.declared.runs.Sought.{Sought}
 use Rattle.bits.specs.declared.runs.Sought.the-variants.{NotFinite}
 use Rattle.bits.proofs.Doubles.{finite-no-nan}
@@ -102,3 +103,35 @@ module _ (words run : List ℕ) where
   pub copied-all : length run ≡ length words → copied words run ≡ words
   unfolding copied
   copied-all h = rw (eq-eqb (length run) (length words) h)
+
+-- ---- Two runs have the same words exactly where they are one run.
+module _ (v w : ℕ) (vs ws : List ℕ) where
+  both-words : (b c : Bool) → eqb v w ≡ b → sameWords vs ws ≡ c → b && c ≡ true → (v ≡ w) × (sameWords vs ws ≡ true)
+  both-words true true e f h = (eqb-true v w e, f)
+  both-words true false e f h = absurd (true≢false (sym h))
+  both-words false c e f h = absurd (true≢false (sym h))
+
+pub same-words : (one other : List ℕ) → sameWords one other ≡ true → one ≡ other
+unfolding sameWords
+same-words [] [] h = refl
+same-words [] (w ∷ ws) h = absurd (true≢false (sym h))
+same-words (v ∷ vs) [] h = absurd (true≢false (sym h))
+same-words (v ∷ vs) (w ∷ ws) h =
+    let x = both-words v w vs ws (eqb v w) (sameWords vs ws) refl refl h in
+    ap₂ _∷_ (x .0) (same-words vs ws (x .1))
+
+same-itself : (one : List ℕ) → sameWords one one ≡ true
+unfolding sameWords
+same-itself [] = refl
+same-itself (v ∷ vs) = rw (eq-eqb v v refl) (same-itself vs)
+
+pub words-same : {one other : List ℕ} → one ≡ other → sameWords one other ≡ true
+words-same {one = one} e = subst (λ (ws : List ℕ). sameWords one ws ≡ true) e (same-itself one)
+
+-- Runs of two lengths are two runs.
+pub lengths-differ : (one other : List ℕ) → (length one ≡ length other → ⊥) → sameWords one other ≡ false
+lengths-differ one other h = not-same (sameWords one other) (λ e. h (ap length (same-words one other e)))
+  where
+    not-same : (b : Bool) → (b ≡ true → ⊥) → b ≡ false
+    not-same true g = absurd (g refl)
+    not-same false g = refl

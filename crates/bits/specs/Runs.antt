@@ -1,6 +1,6 @@
 -- Runs of words. A double crosses every border as its word, so that a run of figures or of divisors is looked through as words (refusals 31 to 38, 4 and
 -- 8).
-use mathlib.Core.Bool.{Bool, true, false, not, _||_}
+use mathlib.Core.Bool.{Bool, true, false, not, _||_, _&&_}
 use mathlib.Core.List.{List, [], _∷_}
 use Prim.Native.Nat.{ℕ, _+_}
 use lib.Dec.{T, eqb, ltb}
@@ -41,3 +41,10 @@ AllFit (x ∷ xs) = T (fits binary64 x) × AllFit xs
 -- What a run holds after words were copied to it: the words, where there are as many.
 unfoldable pub copied : (words run : List ℕ) → List ℕ
 copied words run = pick (eqb (length run) (length words)) words run
+
+-- Whether two runs have the same words, and as many; `same-words` says that they are one run exactly then. Words are compared and not doubles: the zeros of two signs differ.
+unfoldable pub sameWords : (one other : List ℕ) → Bool
+sameWords [] [] = true
+sameWords [] (w ∷ ws) = false
+sameWords (v ∷ vs) [] = false
+sameWords (v ∷ vs) (w ∷ ws) = eqb v w && sameWords vs ws

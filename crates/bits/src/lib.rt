@@ -4,6 +4,7 @@ pub mod runs;
 pub mod words;
 
 pub use runs::Sought;
+pub use runs::are_same;
 pub use runs::copy_words;
 pub use runs::first_of;
 pub use runs::has;

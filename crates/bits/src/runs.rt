@@ -1,6 +1,6 @@
-// Runs of words: what is sought in one, and one copied into another.
+// Runs of words: what is sought in one, one copied into another, and two compared.
 ghost use mathlib.Core.Path.{_≡_};
-ghost use Rattle.bits.specs.Runs.{isSought, firstOf, has, copied};
+ghost use Rattle.bits.specs.Runs.{isSought, firstOf, has, copied, sameWords};
 use super::words::SIGN;
 use super::words::is_finite_word;
 
@@ -53,4 +53,21 @@ pub fn copy_words(words: &[u64], run: &mut [u64])
         run[k] = words[k];
         k += 1;
     }
+}
+
+// Whether two runs have the same words, and as many.
+pub fn are_same(one: &[u64], other: &[u64]) -> bool
+    ensures { λ r. ⌜ r ≡ sameWords (now (one .entry)) (now (other .entry)) ⌝ }
+{
+    if one.len() != other.len() {
+        return false;
+    }
+    let mut k = 0usize;
+    while k < one.len() {
+        if one[k] != other[k] {
+            return false;
+        }
+        k += 1;
+    }
+    true
 }

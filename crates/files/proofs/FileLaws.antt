@@ -12,10 +12,10 @@ use Rattle.files_sections.specs.declared.sections.Section.the-variants.{Centres
 use Rattle.files_sections.specs.declared.checks.Check.{Check}
 use Rattle.files_sections.specs.declared.checks.Check.the-variants.{Sound}
 use Rattle.files_sections.specs.Sections.{widthOf, sectionCheck, centresPlace, statesPlace, requestsPlace, endPlace}
-use Rattle.files_sections.specs.Checks.{_⟫_}
+use Rattle.files_sections.specs.Checks.{_⟫_, endCheck}
 use Rattle.files_sections.proofs.CheckLaws.{both, sound-both, sound-need}
 use Rattle.files_sections.proofs.RecordLaws.{limit-bound}
-use Rattle.files_reader.specs.Reader.{editionCheck, endCheck, fileCheck}
+use Rattle.files_reader.specs.Reader.{editionCheck, fileCheck}
 use Rattle.files_reader.proofs.Accepted.{edition-sound, centres-sound, states-sound, requests-sound, sound-length}
 use Rattle.files.specs.Writer.{recordsIn, wholeCheck, wholeChecks, limitChecks, numberCheck, numberChecks, sizeOf, writeCheck, sectionWords, fileWords, fileOf}
 use Rattle.files.proofs.WriteLaws.{fits, numbers-sound}

@@ -12,9 +12,10 @@ use Rattle.files_sections.specs.declared.checks.Check.the-variants.{Sound, Faul
 use Rattle.files_sections.specs.Sections.{elementEdition, sectionCheck, centresPlace, statesPlace, requestsPlace, endPlace}
 use Rattle.files_sections.proofs.CheckLaws.{both, needed}
 use Rattle.files_sections.proofs.CountedLaws.{count-within, words-within}
+use Rattle.files_sections.specs.Checks.{endCheck}
 use Rattle.files_reader.specs.declared.Places.{Places}
 use Rattle.files_reader.specs.declared.Reading.the-variants.{Sections}
-use Rattle.files_reader.specs.Reader.{editionCheck, endCheck, fileCheck, sectionsOf, readingBy, readingOf, longestFile}
+use Rattle.files_reader.specs.Reader.{editionCheck, fileCheck, sectionsOf, readingBy, readingOf, longestFile}
 
 -- ---- A file that is sound.
 module _ (file : List ℕ) (sound : fileCheck file ≡ Sound) where

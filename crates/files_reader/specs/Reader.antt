@@ -10,7 +10,7 @@ use Rattle.files_sections.specs.declared.sections.Section.{Section}
 use Rattle.files_sections.specs.declared.sections.Section.the-variants.{Centres, States, Requests}
 use Rattle.files_sections.specs.declared.checks.Check.{Check}
 use Rattle.files_sections.specs.declared.checks.Check.the-variants.{Sound, Fault}
-use Rattle.files_sections.specs.Checks.{need, _⟫_, countedCheck}
+use Rattle.files_sections.specs.Checks.{need, _⟫_, countedCheck, endCheck}
 use Rattle.files_sections.specs.Sections.{limitOf, elementEdition, sectionCheck, after, centresPlace, statesPlace, requestsPlace, endPlace}
 use Rattle.files_reader.specs.declared.Places.{Places}
 use Rattle.files_reader.specs.declared.Reading.{Reading}
@@ -24,10 +24,6 @@ editionCheck file = need (leb 8 (length file)) 21 0 ⟫ need (eqb (wordAt file 0
 -- "at most 56,160 bytes": every section at its limit.
 abbrev pub longestFile : ℕ
 longestFile = endPlace (limitOf Centres) (limitOf States) (limitOf Requests)
-
--- "25 bytes left after the last section", at the first of them.
-abbrev pub endCheck : List ℕ → ℕ → Check
-endCheck file end = need (leb (length file) end) 25 end
 
 -- "The reader walks forward": the edition, the sections in their order, the end. Each section tells by its count where the next one stands.
 unfoldable pub fileCheck : List ℕ → Check

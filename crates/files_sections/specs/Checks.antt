@@ -52,6 +52,10 @@ countedCheck file place limit width ruling =
     countCheck file place limit
     ⟫ walk ruling (place + 8) [] (wordAt file place * width) (wordsFrom file (place + 8))
 
+-- ---- "25 bytes left after the last section", at the first of them.
+abbrev pub endCheck : List ℕ → (end : ℕ) → Check
+endCheck file end = need (leb (length file) end) 25 end
+
 -- ---- The rules: "Float words may hold any bits"; "24 number not in its section", "Numbers start at 0". Word j of a section, the first being word 0, is the first
 -- of its record where records of `width` words begin there. It is the number of one of `below` records, or its refusal is 24.
 

@@ -15,9 +15,9 @@ use Rattle.files_words.proofs.WordLaws.{word-whole, next-word}
 use Rattle.files_sections.specs.declared.sections.Section.{Section}
 use Rattle.files_sections.specs.declared.checks.Check.{Check}
 use Rattle.files_sections.specs.declared.checks.Check.the-variants.{Sound, Fault}
-use Rattle.files_sections.specs.Checks.{need, told, _⟫_, Ruling, walk, countCheck, countedCheck, rulingOf}
+use Rattle.files_sections.specs.Checks.{need, told, _⟫_, Ruling, walk, countCheck, countedCheck, rulingOf, endCheck}
 use Rattle.files_sections.specs.Sections.{elementEdition, sections, widthOf, limitOf, ruleOf, centresPlace, after}
-use Rattle.files_reader.specs.Reader.{editionCheck, endCheck, sectionsCheck, fileCheck, sectionsOf, readingBy, readingOf, longestFile}
+use Rattle.files_reader.specs.Reader.{editionCheck, sectionsCheck, fileCheck, sectionsOf, readingBy, readingOf, longestFile}
 use Rattle.files_reader.proofs.Accepted.{accepted-length}
 use Rattle.files_results.specs.Results.{resultBy, resultFile}
 

@@ -109,11 +109,11 @@ unchanged-or-answer pt pr words run = length-kept (not (eqb (length run) 36)) (r
 -- ---- Demand 3
 
 -- What the search of an interval ends with.
-abbrev foundBy : Proposing → Initial → Seconds → Finding
+abbrev pub foundBy : Proposing → Initial → Seconds → Finding
 foundBy pr i tau = searchBy (pr i tau) i tau (firstStepOf i tau)
 
 -- Where the search found ψ, the call goes on from its arc.
-reaches : (pt : Parting) (pr : Proposing) (words : List ℕ) (s : Searches pt words) {x : Finding} →
+pub reaches : (pt : Parting) (pr : Proposing) (words : List ℕ) (s : Searches pt words) {x : Finding} →
     foundBy pr (s .start .initial) (searchedIn s) ≡ x → reachedWordsBy pt pr words ≡ reachedFound (s .start) (intervalIn s) x
 unfolding reachedWordsBy reachedOrbitBy reachedFromBy reachedOverBy
 reaches pt pr words s e =
@@ -147,7 +147,7 @@ settled-with arc n e r run h (inl p) =
 settled-with arc n e r run h (inr (inl p)) = inr (inl (ap (λ (x : Ended). endedWith arc n x run) p))
 settled-with arc n e r run h (inr (inr p)) = inr (inr (ap (λ (x : Ended). endedWith arc n x run) p))
 
-psi-of : (s : Start) (d : Interval) (psi : Anomaly) → resultsOf (arcOf s d psi) .psi ≡ psi
+pub psi-of : (s : Start) (d : Interval) (psi : Anomaly) → resultsOf (arcOf s d psi) .psi ≡ psi
 unfolding resultsOf arcOf
 psi-of s d psi = refl
 

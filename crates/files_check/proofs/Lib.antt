@@ -1,0 +1,4 @@
+-- The laws of a file of rows, and what the public function leaves open.
+pub mod Sound
+pub mod Verdicts
+pub mod OneAnswers

@@ -1,0 +1,34 @@
+-- The run is too short for the verdicts, or they are put.
+use Prim.Native.Nat.{ℕ, _<_, _≤_}
+use mathlib.Core.Path.{_≡_, refl, sym, _∙_}
+use mathlib.Core.List.{List}
+use borrow.Author.Needs.{needs}
+use borrow.Author.Tests.{le-leb, lt-leb}
+use lib.ListN.{length}
+use Rattle.files_sections.specs.declared.checks.Check.the-variants.{Sound}
+use Rattle.files_check.specs.RowsFile.{judgedBy, withVerdicts, verdictsBy}
+use Rattle.files_check.proofs.judge_rows.Statement.{statement}
+use Rattle.files_check.proofs.judge_rows.Tie as tie
+
+module _ (file : List ℕ) (rows : ℕ) (run : List ℕ) where
+  too-short : length run < rows → (record { number = 26; «place_or_rows» = rows } ≡ judgedBy Sound rows (length run)) × (run ≡ verdictsBy Sound file rows run)
+  too-short h = (rw (lt-leb rows (length run) h), rw (lt-leb rows (length run) h))
+
+  long-enough : rows ≤ length run → {now : List ℕ} → now ≡ withVerdicts file rows run
+      → (record { number = 0; «place_or_rows» = rows } ≡ judgedBy Sound rows (length run)) × (now ≡ verdictsBy Sound file rows run)
+  long-enough h e = (rw (le-leb rows (length run) h), rw (le-leb rows (length run) h) e)
+
+returns : tie.Need-returns
+returns c = too-short _ _ _ (c .if1 .taken)
+
+put-verdicts-requires : tie.Need-put-verdicts-requires
+put-verdicts-requires c κs = (c .before .before .before .before .pre, c .before .if1 .left)
+
+same-length : tie.Need-same-length
+same-length c = search needs
+
+returns-2 : tie.Need-returns-2
+returns-2 c = long-enough _ _ _ (c .before .before .before .before .if1 .left) (c .before .before .put-verdicts .ensures)
+
+pub judge-rows-spec : {M : Type 1} → statement M
+judge-rows-spec = tie.close (tie.spec returns put-verdicts-requires same-length returns-2)
