@@ -19,6 +19,8 @@ use Rattle.kelubashi.proofs.kelubashi1_append.Kinds as append-kinds
 use Rattle.kelubashi.proofs.kelubashi1_append.Reads as append-reads
 use Rattle.kelubashi.proofs.kelubashi1_withdraw.Kinds as withdraw-kinds
 use Rattle.kelubashi.proofs.kelubashi1_withdraw.Reads as withdraw-reads
+use Rattle.kelubashi.proofs.kelubashi1_check.Kinds as check-kinds
+use Rattle.kelubashi.proofs.kelubashi1_check.Reads as check-reads
 
 pub root-one : OneAnswer 1 root-kinds.ps root-kinds.r root-reads.Post
 root-one κs a x y v w p q = (p .0 ∙ sym (q .0), λ i. (tt, ((p .1 ∙ sym (q .1)) i, tt)))
@@ -48,3 +50,6 @@ append-one κs a x y v w p q =
 pub withdraw-one : OneAnswer 3 withdraw-kinds.ps withdraw-kinds.r withdraw-reads.Post
 withdraw-one κs a x y v w p q =
     (p .0 ∙ sym (q .0), λ i. (tt, ((p .1 .1 .0 ∙ sym (q .1 .1 .0)) i, (tt, (tt, ((p .1 .1 .1 ∙ sym (q .1 .1 .1)) i, ((p .1 .0 ∙ sym (q .1 .0)) i, tt)))))))
+
+pub check-one : OneAnswer 3 check-kinds.ps check-kinds.r check-reads.Post
+check-one κs a x y v w p q = (p .0 ∙ sym (q .0), λ i. (tt, ((p .1 .1 ∙ sym (q .1 .1)) i, ((p .1 .0 ∙ sym (q .1 .0)) i, tt))))

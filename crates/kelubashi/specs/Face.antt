@@ -15,6 +15,8 @@ use Rattle.files.specs.declared.Writing.the-variants as writing
 use Rattle.files_results.specs.Results.{outcomeOf}
 use Rattle.files_results.specs.declared.Outcome.{Outcome}
 use Rattle.files_summary.specs.declared.changes.Change.{Change}
+use Rattle.files_check.specs.RowsFile.{judgedOf}
+use Rattle.files_check.specs.declared.Judged.{Judged}
 
 -- What is returned, for an answer of n words and a run as it was handed in.
 abbrev pub returned : ℕ → List ℕ → ℕ → ℕ
@@ -47,6 +49,10 @@ outcomeWords o = o .number ∷ o .size ∷ []
 -- The answer of a change of the states: number, then the states in use afterwards.
 abbrev pub changeWords : Change → List ℕ
 changeWords c = c .number ∷ c .count ∷ []
+
+-- The answer to a file of rows: number, then the place of the refusal, or the rows.
+abbrev pub judgedWords : Judged → List ℕ
+judgedWords j = j .number ∷ j .«place_or_rows» ∷ []
 
 -- The number of an answer is its first word.
 abbrev pub numberIn : List ℕ → ℕ

@@ -9,7 +9,8 @@ ghost use Rattle.files_words.specs.Bytes.{put};
 ghost use Rattle.files_results.specs.Results.{outcomeOf, resultFile};
 ghost use lib.ListN.{length};
 ghost use Rattle.files_summary.specs.Changes.{entryWidth, summaryRefusal, summaryList, appendBeside, appendRunBeside, withdrawBeside, withdrawRunBeside, settledBy, putEntry};
-ghost use Rattle.kelubashi.specs.Face.{returned, answerAfter, lentBehind, readWords, resultsWords, numberIn, writeNumber, writeAnswer, writeRoom, changeWords};
+ghost use Rattle.files_check.specs.RowsFile.{judgedOf, verdictsAfter};
+ghost use Rattle.kelubashi.specs.Face.{returned, answerAfter, lentBehind, readWords, resultsWords, numberIn, writeNumber, writeAnswer, writeRoom, changeWords, judgedWords};
 
 mod answers;
 
@@ -194,4 +195,19 @@ pub extern "C" fn kelubashi1_withdraw(
     let change = files_summary::words::withdraw(list, which, states, count, centres);
     bits::copy_words(&[change.number, change.count], answer);
     change.number
+}
+
+// A verdict for each row of another station's file, to a lent run, and an answer run of two words.
+#[no_mangle]
+pub extern "C" fn kelubashi1_check(file: &[u8], verdicts: &mut [u64], answer: &mut [u64]) -> u64
+    ensures number { λ r. ⌜ r ≡ returned 2 (now (answer .entry)) (judgedOf (now (file .entry)) (length (now (verdicts .entry))) .number) ⌝ }
+    ensures answer { λ _. ⌜ now (answer .exit) ≡ answerAfter 2 (now (answer .entry)) (judgedWords (judgedOf (now (file .entry)) (length (now (verdicts .entry))))) ⌝ }
+    ensures lent { λ _. ⌜ now (verdicts .exit) ≡ lentBehind 2 (now (answer .entry)) (now (verdicts .entry)) (verdictsAfter (now (file .entry)) (now (verdicts .entry))) ⌝ }
+{
+    if answer.len() != 2 {
+        return 60;
+    }
+    let judged = files_check::judge(file, verdicts);
+    bits::copy_words(&[judged.number, judged.place_or_rows as u64], answer);
+    judged.number
 }

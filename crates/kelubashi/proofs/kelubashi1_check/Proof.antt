@@ -1,0 +1,51 @@
+-- A run of another length is left as it was, and the verdicts too; else the two words are written.
+use mathlib.Core.Path.{refl, ap}
+use borrow.Author.Needs.{needs}
+use Rattle.files_check.specs.declared.Judged.{Judged}
+use Rattle.kelubashi.specs.Face.{judgedWords}
+use Rattle.kelubashi.proofs.Face.{wrong-length, right-length, left-lent, made-lent}
+use Rattle.kelubashi.proofs.kelubashi1_check.Statement.{statement}
+use Rattle.kelubashi.proofs.kelubashi1_check.Tie as tie
+
+returns : tie.Need-returns
+returns c =
+    let a = c .before .before .before .before .args in
+    let w = wrong-length 2 (a .answer .now) (c .if1 .taken) _ _ in
+    (w .0, (w .1, left-lent 2 (a .answer .now) (c .if1 .taken) (a .verdicts .now) _))
+
+judge-requires : tie.Need-judge-requires
+judge-requires c κs = search needs
+
+slice-aggregate-copy-words : tie.Need-slice-aggregate-copy-words
+slice-aggregate-copy-words c = search needs
+
+copy-words-requires : tie.Need-copy-words-requires
+copy-words-requires c κs = search needs
+
+same-length : tie.Need-same-length
+same-length c = search needs
+
+same-length-2 : tie.Need-same-length-2
+same-length-2 c = search needs
+
+returns-2 : tie.Need-returns-2
+returns-2 c =
+    let w = c .before .before in
+    let f = w .before .before .before .before .before in
+    let e = f .judge .ensures in
+    let args = f .before .before .before .before .before .before .args in
+    let same = f .before .before .if1 .left in
+    let a = right-length 2 _ same refl (ap (λ (j : Judged). j .number) (e .0)) (w .copy-words .ensures) (ap judgedWords (e .0)) in
+    (a .0, (a .1, made-lent 2 (args .answer .now) same (args .verdicts .now) (e .1)))
+
+pub kelubashi1-check-spec : {M : Type 1} → statement M
+kelubashi1-check-spec =
+    tie.close
+    (tie.spec
+    returns
+    judge-requires
+    slice-aggregate-copy-words
+    copy-words-requires
+    same-length
+    same-length-2
+    returns-2)
