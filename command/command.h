@@ -8,7 +8,7 @@
 /* The exit statuses, the same for every subcommand. */
 enum status {
     ALL_WELL = 0,
-    SOMETHING_REFUSED = 1,  /* done, but something is refused */
+    SOMETHING_AMISS = 1,    /* done, but something is refused, not accepted or left over */
     NOT_DONE = 2,           /* cannot read, write, or understand the call */
     UNSOUND = 3             /* the self-check failed */
 };

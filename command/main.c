@@ -26,7 +26,7 @@ enum { SUBCOMMAND_COUNT = sizeof SUBCOMMANDS / sizeof SUBCOMMANDS[0] };
 static const char EXIT_STATUS[] =
     "Exit status:\n"
     "  0  all well\n"
-    "  1  done, but something is refused\n"
+    "  1  done, but something is refused, not accepted or left over\n"
     "  2  not done: cannot read, write, or understand the call\n"
     "  3  the self-check failed\n";
 

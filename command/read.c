@@ -61,7 +61,7 @@ static enum status run(const struct call *call)
         return NOT_DONE;
     if (elements_refusal(&elements) != 0) {
         say_refused_elements(&elements);
-        return SOMETHING_REFUSED;
+        return SOMETHING_AMISS;
     }
     if (!call->quiet) {
         show_counts(&elements);

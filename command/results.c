@@ -69,7 +69,7 @@ static enum status run(const struct call *call)
         return NOT_DONE;
     if (!call->quiet)
         say_done(call, &elements, refused);
-    return refused != 0 || elements_refusal(&elements) != 0 ? SOMETHING_REFUSED : ALL_WELL;
+    return refused != 0 || elements_refusal(&elements) != 0 ? SOMETHING_AMISS : ALL_WELL;
 }
 
 const struct subcommand results_subcommand = {

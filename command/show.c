@@ -62,7 +62,7 @@ static enum status show_rows(const struct element_file *elements, const struct r
     for (row = 0; row < rows; row++)
         if (!quiet || row_word(results, row, KELUBASHI_REFUSAL) != 0)
             show_row(elements, results, row);
-    return refused == 0 ? ALL_WELL : SOMETHING_REFUSED;
+    return refused == 0 ? ALL_WELL : SOMETHING_AMISS;
 }
 
 static enum status run(const struct call *call)
@@ -76,7 +76,7 @@ static enum status run(const struct call *call)
         say_refused_elements(&elements);
     if (!are_results_of(&results, &elements))
         return NOT_DONE;
-    return elements_refusal(&elements) != 0 ? SOMETHING_REFUSED : show_rows(&elements, &results, call->quiet);
+    return elements_refusal(&elements) != 0 ? SOMETHING_AMISS : show_rows(&elements, &results, call->quiet);
 }
 
 const struct subcommand show_subcommand = {

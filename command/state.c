@@ -68,7 +68,7 @@ static enum status run(const struct call *call)
     refusal = kelubashi_propagate(given[MU], given + X, given + VX, given[TAU], &answer);
     if (refusal != 0) {
         say_refused(refusal, "the state is");
-        return SOMETHING_REFUSED;
+        return SOMETHING_AMISS;
     }
     if (!call->quiet)
         show_answer(given, &answer);

@@ -87,7 +87,7 @@ static enum status run(const struct subcommand *subcommand, int writes, int any_
     stdout = output;
     stderr = error;
     well += status == ALL_WELL;
-    refused += status == SOMETHING_REFUSED;
+    refused += status == SOMETHING_AMISS;
     not_done += status == NOT_DONE;
     return status;
 }
@@ -122,10 +122,10 @@ static enum status status_of(const uint8_t *results, size_t length)
     size_t i;
 
     if (length == 24)
-        return SOMETHING_REFUSED;
+        return SOMETHING_AMISS;
     for (i = 16; i < length; i += 88)
         if (results[i] != 0)
-            return SOMETHING_REFUSED;
+            return SOMETHING_AMISS;
     return ALL_WELL;
 }
 
@@ -155,7 +155,7 @@ static void try_elements(uint64_t number)
     size_t length;
 
     give_elements(number);
-    wanted = second_read(file.bytes, file.length, answer, 8) == 0 ? ALL_WELL : SOMETHING_REFUSED;
+    wanted = second_read(file.bytes, file.length, answer, 8) == 0 ? ALL_WELL : SOMETHING_AMISS;
     status = run(&read_subcommand, 0, 0);
     hold(status == wanted, "read ends otherwise");
     status = run(&centres_subcommand, 0, 0);
