@@ -20,7 +20,10 @@ struct call {
     const char *output;     /* the name after -o, or a null pointer */
     int quiet;              /* -q: say nothing but trouble */
     int any_bits;           /* --any-bits */
+    const char *from;       /* the word after --from, or a null pointer */
 };
+
+enum { TAKES_ANY_BITS = 1, TAKES_FROM = 2 };
 
 struct subcommand {
     const char *name;
@@ -29,7 +32,7 @@ struct subcommand {
     const char *help;       /* the lines of its own --help, below the usage */
     int operands;           /* how many it takes */
     const char *letters;    /* its options, as getopt takes them */
-    int takes_any_bits;
+    int long_options;       /* its options of a whole word: TAKES_ANY_BITS, TAKES_FROM */
     enum status (*run)(const struct call *call);
 };
 
@@ -39,6 +42,5 @@ extern const struct subcommand elements_subcommand;
 extern const struct subcommand read_subcommand;
 extern const struct subcommand centres_subcommand;
 extern const struct subcommand state_subcommand;
-extern const struct subcommand selfcheck_subcommand;
 
 #endif

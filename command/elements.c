@@ -13,8 +13,7 @@ static void say_done(const struct call *call, const struct listing *listing, siz
 {
     say("%s: centres %lu, states %lu, requests %lu: the element file, %lu bytes, is written to %s", listing->name,
         (unsigned long)listing->sections[0].count, (unsigned long)listing->sections[1].count,
-        (unsigned long)listing->sections[2].count, (unsigned long)length,
-        call->output == NULL ? "standard output" : call->output);
+        (unsigned long)listing->sections[2].count, (unsigned long)length, output_name(call));
 }
 
 static enum status run(const struct call *call)
@@ -49,5 +48,5 @@ const struct subcommand elements_subcommand = {
     "Centres and states are numbered from 0, in the order of their lines. A line that is not good is told with\n"
     "its number, and nothing is written then.\n"
     "  --any-bits   take figures that are infinite or NaNs (inf, nan), for files that are to be refused\n",
-    1, "qo:", 1, run
+    1, "qo:", TAKES_ANY_BITS, run
 };

@@ -10,18 +10,6 @@
 
 enum { TOLD = 20 };     /* so many refused requests are told one by one */
 
-/* A refused request, with what is at fault in the file where that is one figure. */
-static void say_refused_request(const struct element_file *elements, size_t request, uint64_t number)
-{
-    unsigned long state = (unsigned long)state_of(elements, request);
-    char origin[ORIGIN_TEXT];
-
-    if (describe_origin(elements, request, number, origin, sizeof origin))
-        say_refused(number, "%s: request %lu, of state %lu: %s:", elements->name, (unsigned long)request, state, origin);
-    else
-        say_refused(number, "%s: request %lu, of state %lu:", elements->name, (unsigned long)request, state);
-}
-
 /* A line for each refused request, and one for those beyond the twentieth. */
 static void say_refused_requests(const struct element_file *elements, const struct result_file *results, size_t refused)
 {
@@ -43,7 +31,7 @@ static void say_refused_requests(const struct element_file *elements, const stru
 /* What was done, in a line. */
 static void say_done(const struct call *call, const struct element_file *elements, size_t refused)
 {
-    const char *place = call->output == NULL ? "standard output" : call->output;
+    const char *place = output_name(call);
 
     if (elements_refusal(elements) != 0)
         say("%s: the refusal is written to %s", elements->name, place);

@@ -1,5 +1,7 @@
 #include "origin.h"
 
+#include "say.h"
+
 #include <math.h>
 #include <stdio.h>
 
@@ -38,4 +40,15 @@ int describe_origin(const struct element_file *elements, size_t request, uint64_
     else
         return 0;
     return 1;
+}
+
+void say_refused_request(const struct element_file *elements, size_t request, uint64_t refusal)
+{
+    unsigned long state = (unsigned long)state_of(elements, request);
+    char origin[ORIGIN_TEXT];
+
+    if (describe_origin(elements, request, refusal, origin, sizeof origin))
+        say_refused(refusal, "%s: request %lu, of state %lu: %s:", elements->name, (unsigned long)request, state, origin);
+    else
+        say_refused(refusal, "%s: request %lu, of state %lu:", elements->name, (unsigned long)request, state);
 }

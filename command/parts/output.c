@@ -176,6 +176,11 @@ static enum status write_file(const char *name, const char *source, const uint8_
     return may_replace(target, source, &mode) ? replace(target, mode, bytes, length) : NOT_DONE;
 }
 
+const char *output_name(const struct call *call)
+{
+    return call->output == NULL ? "standard output" : call->output;
+}
+
 enum status write_output(const char *name, const char *source, const uint8_t *bytes, size_t length)
 {
     if (name != NULL)

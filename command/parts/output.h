@@ -18,6 +18,9 @@
 */
 enum status write_output(const char *name, const char *source, const uint8_t *bytes, size_t length);
 
+/* Where that is, in words. */
+const char *output_name(const struct call *call);
+
 /* Text for standard output is gathered from now on, and written when it ends: so the reason of a failure is known. */
 void gather_output(void);
 

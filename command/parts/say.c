@@ -35,6 +35,12 @@ void say(const char *format, ...)
     fputc('\n', stderr);
 }
 
+void put_refused(FILE *stream, uint64_t number)
+{
+    fprintf(stream, "refused (%" PRIu64 "): %s; %s\n", number, kelubashi_refusal_text(number),
+            kelubashi_refusal_advice(number));
+}
+
 void say_refused(uint64_t number, const char *format, ...)
 {
     va_list rest;
@@ -43,8 +49,8 @@ void say_refused(uint64_t number, const char *format, ...)
     va_start(rest, format);
     vfprintf(stderr, format, rest);
     va_end(rest);
-    fprintf(stderr, " refused (%" PRIu64 "): %s; %s\n", number, kelubashi_refusal_text(number),
-            kelubashi_refusal_advice(number));
+    fputc(' ', stderr);
+    put_refused(stderr, number);
 }
 
 /* What to do where the system gives this reason. */

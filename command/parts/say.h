@@ -4,8 +4,8 @@
 #ifndef SAY_H
 #define SAY_H
 
-#include <stddef.h>
 #include <stdint.h>
+#include <stdio.h>
 
 /* From now on lines start with this subcommand's name too. */
 void speak_as(const char *subcommand);
@@ -17,7 +17,10 @@ void say(const char *format, ...);
 void say_unread(const char *name, int reason);
 void say_unwritten(const char *name, int reason);
 
-/* "refused (NUMBER): in words; what to do", behind where it is refused. */
+/* "refused (NUMBER): in words; what to do", to the end of a line. */
+void put_refused(FILE *stream, uint64_t number);
+
+/* The same as a line, behind where it is refused. */
 void say_refused(uint64_t number, const char *format, ...);
 
 /* A word of a file or a call as it can be shown: what no terminal should get is a question mark. */

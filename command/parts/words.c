@@ -6,6 +6,9 @@
 #include <string.h>
 #include <unistd.h>
 
+#define GIVEN_TWICE "is given twice"
+#define NO_OPTION "is no option of it"
+
 /* A word that starts with a minus and is no number. A number is an operand: kelubashi state takes some below zero. */
 static int is_option(const char *word)
 {
@@ -13,10 +16,17 @@ static int is_option(const char *word)
            strncmp(word, "-inf", 4) != 0 && strncmp(word, "-nan", 4) != 0;
 }
 
+/* What is wrong with an option. */
+static enum words bad_option(const struct subcommand *subcommand, const char *option, const char *wrong)
+{
+    say("%s %s: see kelubashi %s --help", shown(option), wrong, subcommand->name);
+    return WORDS_NOT_UNDERSTOOD;
+}
+
 /* An option of one letter, or its end in a word of several: getopt knows where it is. */
 static enum words take_letter(const struct subcommand *subcommand, int count, char **words, struct call *call)
 {
-    char letters[16];
+    char letters[16], option[] = "-?";
 
     /* with the plus, no getopt goes on past an operand; with the colon, it tells a missing name apart */
     snprintf(letters, sizeof letters, "+:%s", subcommand->letters);
@@ -25,32 +35,44 @@ static enum words take_letter(const struct subcommand *subcommand, int count, ch
         call->quiet = 1;
         return WORDS_GOOD;
     case 'o':
-        if (call->output != NULL) {
-            say("-o is given twice: see kelubashi %s --help", subcommand->name);
-            return WORDS_NOT_UNDERSTOOD;
-        }
+        if (call->output != NULL)
+            return bad_option(subcommand, "-o", GIVEN_TWICE);
         call->output = optarg;
         return WORDS_GOOD;
     case ':':
-        say("-%c needs a name behind it: see kelubashi %s --help", optopt, subcommand->name);
-        return WORDS_NOT_UNDERSTOOD;
+        option[1] = (char)optopt;
+        return bad_option(subcommand, option, "needs a name behind it");
     default:
-        say("-%c is no option of it: see kelubashi %s --help", optopt, subcommand->name);
-        return WORDS_NOT_UNDERSTOOD;
+        option[1] = (char)optopt;
+        return bad_option(subcommand, option, NO_OPTION);
     }
 }
 
-/* An option of a whole word. */
-static enum words take_long(const struct subcommand *subcommand, const char *word, struct call *call)
+/* The number behind --from, which the subcommand reads. */
+static enum words take_from(const struct subcommand *subcommand, int count, char **words, struct call *call)
 {
+    if (call->from != NULL)
+        return bad_option(subcommand, "--from", GIVEN_TWICE);
+    if (optind == count)
+        return bad_option(subcommand, "--from", "needs a number behind it");
+    call->from = words[optind++];
+    return WORDS_GOOD;
+}
+
+/* An option of a whole word, with what it needs behind it. */
+static enum words take_long(const struct subcommand *subcommand, int count, char **words, struct call *call)
+{
+    const char *word = words[optind++];
+
     if (strcmp(word, "--help") == 0)
         return WORDS_ASK_FOR_HELP;
-    if (subcommand->takes_any_bits && strcmp(word, "--any-bits") == 0) {
+    if ((subcommand->long_options & TAKES_ANY_BITS) != 0 && strcmp(word, "--any-bits") == 0) {
         call->any_bits = 1;
         return WORDS_GOOD;
     }
-    say("%s is no option of it: see kelubashi %s --help", shown(word), subcommand->name);
-    return WORDS_NOT_UNDERSTOOD;
+    if ((subcommand->long_options & TAKES_FROM) != 0 && strcmp(word, "--from") == 0)
+        return take_from(subcommand, count, words, call);
+    return bad_option(subcommand, word, NO_OPTION);
 }
 
 /* As many operands as the subcommand takes. */
@@ -84,9 +106,10 @@ enum words take_words(const struct subcommand *subcommand, int count, char **wor
             optind++;
         } else if (word[1] != '-') {
             taken = take_letter(subcommand, count, words, call);
+        } else if (word[2] != '\0') {
+            taken = take_long(subcommand, count, words, call);
         } else {
-            operands_only = word[2] == '\0';
-            taken = operands_only ? WORDS_GOOD : take_long(subcommand, word, call);
+            operands_only = 1;
             optind++;
         }
     }
