@@ -41,6 +41,9 @@ extern const struct subcommand show_subcommand;
 extern const struct subcommand elements_subcommand;
 extern const struct subcommand read_subcommand;
 extern const struct subcommand centres_subcommand;
+extern const struct subcommand check_subcommand;
+extern const struct subcommand rows_subcommand;
 extern const struct subcommand state_subcommand;
+extern const struct subcommand selfcheck_subcommand;
 
 #endif

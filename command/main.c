@@ -18,7 +18,7 @@
 
 static const struct subcommand *const SUBCOMMANDS[] = {
     &results_subcommand, &show_subcommand, &elements_subcommand, &read_subcommand, &centres_subcommand,
-    &state_subcommand, &selfcheck_subcommand
+    &check_subcommand, &rows_subcommand, &state_subcommand, &selfcheck_subcommand
 };
 
 enum { SUBCOMMAND_COUNT = sizeof SUBCOMMANDS / sizeof SUBCOMMANDS[0] };

@@ -160,3 +160,13 @@ double interval_of(const struct element_file *elements, size_t request)
     return kelubashi_figure(request_word(elements, request, REQUEST_TIME)) -
            kelubashi_figure(state_word(elements, state_of(elements, request), STATE_EPOCH));
 }
+
+void request_input(const struct element_file *elements, size_t request, uint64_t *words)
+{
+    size_t state = state_of(elements, request), word;
+
+    *words++ = centre_word(elements, (size_t)state_word(elements, state, STATE_CENTRE));
+    for (word = STATE_X; word < KELUBASHI_STATE; word++)
+        *words++ = state_word(elements, state, word);
+    *words = kelubashi_word(interval_of(elements, request));
+}

@@ -56,4 +56,7 @@ void copy_states(const struct element_file *elements, uint64_t *run);
 size_t state_of(const struct element_file *elements, size_t request);
 double interval_of(const struct element_file *elements, size_t request);
 
+/* The eight words of a request that the library's call takes: mu, x, y, z, vx, vy, vz, tau. */
+void request_input(const struct element_file *elements, size_t request, uint64_t *words);
+
 #endif
