@@ -33,7 +33,7 @@ fi
 # ---- The programs, once with sanitizers and once plain.
 
 command='command/*.c command/parts/*.c host/kelubashi_selfcheck.c tests/second_library.c'
-second=$(printf 'tests/second/%s.c ' root series revolutions search states files summary)
+second=$(printf 'tests/second/%s.c ' root series revolutions search states walk files summary rows)
 drive=$(printf 'tests/%s.c ' drive orbits sections damaged)
 wrapped=$(printf ' -Wl,--wrap=%s' rename fsync close fchmod write read kelubashi1_summary)
 

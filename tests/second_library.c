@@ -55,3 +55,8 @@ uint64_t kelubashi1_withdraw(uint64_t which, uint64_t *states, size_t words, uin
 {
     return second_withdraw(which, states, words, count, centres, list, k, answer, n);
 }
+
+uint64_t kelubashi1_check(const uint8_t *file, size_t length, uint64_t *verdicts, size_t k, uint64_t *answer, size_t n)
+{
+    return second_check(file, length, verdicts, k, answer, n);
+}

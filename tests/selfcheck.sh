@@ -14,7 +14,7 @@ run() {
     sh tests/machine.sh run "$@"
 }
 
-second=$(printf 'tests/second/%s.c ' root series revolutions search states files summary)
+second=$(printf 'tests/second/%s.c ' root series revolutions search states walk files summary rows)
 
 # fast-math alone may change a host's own figures; what it links is what changes the library's
 for how in -O0 -O2 '-O3 -ffast-math'; do
