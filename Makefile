@@ -180,18 +180,20 @@ facts: machine lib program build/tests/facts build/tests/stack
 selfcheck: machine lib command
 	@sh tests/selfcheck.sh
 
-installed: machine lib program command build/tests/second_results
+installed: machine lib program command build/tests/second_results build/tests/second_rows
 	@sh tests/install.sh
 
 tried: machine program command build/tests/second_results
 	@sh tests/program.sh
 
 # On the machine's own processor, with the second program for a library: sanitizers and valgrind.
-sanitized: build/tests/second_results
+sanitized: build/tests/second_results build/tests/second_rows
 	@sh tests/sanitize.sh
 
-commanded: machine command build/tests/kelubashi_faulty build/tests/second_results
-	@sh tests/command.sh 'over the library' 'sh tests/machine.sh run build/kelubashi' 'sh tests/machine.sh run build/tests/kelubashi_faulty'
+commanded: machine command build/tests/kelubashi_faulty build/tests/second_results build/tests/second_rows
+	@for script in tests/command.sh tests/command_rows.sh; do \
+		sh $$script 'over the library' 'sh tests/machine.sh run build/kelubashi' 'sh tests/machine.sh run build/tests/kelubashi_faulty' || exit 1; \
+	done
 
 SECOND = $(patsubst %,build/tests/second/%.o,root series revolutions search states walk files summary rows)
 TRACED = $(SECOND:build/tests/second/%=build/tests/traced/%)
@@ -206,8 +208,8 @@ build/host/%: STRICT += -Wconversion
 build/kelubashi: $(COMMAND) machine lib
 	@$(X86) compile $(STRICT) -o $@ $(COMMAND) build/libkelubashi.a
 
-# The same, with faults of the machine before the system's calls, and before one of the library's.
-WRAPPED = $(patsubst %,-Wl$(comma)--wrap=%,rename fsync close fchmod write read kelubashi1_summary)
+# The same, with faults of the machine before the system's calls, and before two of the library's.
+WRAPPED = $(patsubst %,-Wl$(comma)--wrap=%,rename fsync close fchmod write read kelubashi1_summary kelubashi1_check)
 comma = ,
 build/tests/kelubashi_faulty: $(COMMAND) build/tests/command_faults.o machine lib
 	@$(X86) compile $(STRICT) $(WRAPPED) -o $@ $(COMMAND) build/tests/command_faults.o build/libkelubashi.a
@@ -239,7 +241,7 @@ build/bench/accuracy: bench/accuracy.c $(BESIDE) $(wildcard bench/*.h) include/k
 build/tests/second/selftest: build/tests/second/selftest.o $(SELFTEST) $(SECOND) | machine
 	@$(X86) compile $(STRICT) -o $@ $^ -lm
 
-build/tests/second_results: build/tests/second_results.o $(SECOND) | machine
+build/tests/second_results build/tests/second_rows: %: %.o $(SECOND) | machine
 	@$(X86) compile $(STRICT) -o $@ $^ -lm
 
 # Once more, with a call in every block that tells the guided program where it is.

@@ -4,84 +4,7 @@
 # everything that fails, the old file has to be as it was, and nothing left beside it.
 set -eu
 cd "$(dirname "$0")/.."
-name=$1 command=$2 faulty=$3
-here=$PWD
-room=$(mktemp -d)
-trap 'rm -rf "$room"' EXIT
-export LC_ALL=C     # the system's reasons are read below
-cases=0
-
-fail() {
-    echo "command: $name: $1" >&2
-    exit 1
-}
-
-second() {
-    sh "$here/tests/machine.sh" run "$here/build/tests/second_results"
-}
-
-# Runs the command with these words; its status has to be $1. What it wrote is in wrote, what it said in said.
-kelubashi() {
-    wanted=$1 status=0
-    shift
-    # shellcheck disable=SC2086 # a list of words
-    $command "$@" >"$room/wrote" 2>"$room/said" || status=$?
-    asked="kelubashi $*"
-    held
-}
-
-# The same with a fault.
-fault() {
-    wanted=$1 status=0
-    FAULT=$2
-    export FAULT
-    shift 2
-    # shellcheck disable=SC2086 # a list of words
-    $faulty "$@" >"$room/wrote" 2>"$room/said" || status=$?
-    asked="kelubashi $*, with the fault '$FAULT'"
-    unset FAULT
-    held
-}
-
-held() {
-    [ $status -eq "$wanted" ] || fail "$asked: the status is $status and not $wanted; it says: $(cat "$room/said")"
-    cases=$((cases + 1))
-}
-
-# What the last call said: these lines, or nothing. What it wrote: nothing, or these bytes, or a text with this in it.
-says() {
-    printf '%s' "${1:+$1
-}" | cmp -s "$room/said" - || fail "$asked: it says '$(cat "$room/said")' and not '$1'"
-}
-
-writes_nothing() {
-    [ ! -s "$room/wrote" ] || fail "$asked: it writes to standard output: $(head -c 200 "$room/wrote")"
-}
-
-writes() {
-    cmp -s "$1" "$room/wrote" || fail "$asked: what it writes is not what it has to write"
-}
-
-shows() {
-    grep -qF -- "$1" "$room/wrote" || fail "$asked: '$1' is not in what it writes: $(cat "$room/wrote")"
-}
-
-# The old file is as it was, and no other is beside it.
-old_is_whole() {
-    cmp -s "$room/kept" "$room/out/file" || fail "$asked: the old file is not as it was"
-    [ "$(ls -A "$room/out")" = file ] || fail "$asked: a file is left: $(ls -A "$room/out")"
-}
-
-# The new file is in its place, and no other beside it.
-new_is_whole() {
-    cmp -s "$1" "$room/out/file" || fail "$asked: the new file is not what it has to be"
-    [ "$(ls -A "$room/out")" = file ] || fail "$asked: a file is left: $(ls -A "$room/out")"
-    cp "$room/kept" "$room/out/file"
-}
-
-mkdir "$room/out"
-echo 'the old file' >"$room/kept"
-cp "$room/kept" "$room/out/file"
+. tests/command_calls.sh
 
 example=examples/orbits.elements
 printf 'centre 398600.4418\nstate 0 0 1131.340 -2282.343 6672.423 -5.64305 4.30333 2.42879\nrequest 0 600\n' >"$room/good.txt"
@@ -133,10 +56,10 @@ writes_nothing
 kelubashi 0 --version
 shows 'kelubashi, edition 1'
 kelubashi 0 --help
-for each in results show elements read centres state selfcheck; do
+for each in results show elements read centres check rows state selfcheck; do
     shows "  kelubashi $each "
 done
-for each in results show elements read centres state selfcheck; do
+for each in results show elements read centres check rows state selfcheck; do
     kelubashi 0 $each --help
     shows "usage: kelubashi $each"
     shows '  2  not done: cannot read, write, or understand the call'
@@ -144,7 +67,6 @@ for each in results show elements read centres state selfcheck; do
 done
 
 # A FIFO is waited for; a link is followed; the old mode is kept, and a new file has that of any file.
-mkfifo "$room/fifo"
 (sleep 0.3 && head -c 50 "$good" && sleep 0.2 && tail -c +51 "$good") >"$room/fifo" &
 kelubashi 0 results -q "$room/fifo"
 writes "$room/good.results"
@@ -286,13 +208,6 @@ file 22 '0, the edition' "$room/zeros"
 
 # ---- 2: not done. First words that are not understood.
 
-unread() {
-    line=$1
-    shift
-    kelubashi 2 "$@"
-    writes_nothing
-    says "$line"
-}
 unread "kelubashi: a subcommand is missing: see kelubashi --help"
 unread "kelubashi: 'reslts' is no subcommand: see kelubashi --help" reslts
 unread "kelubashi: '--help' is no subcommand: see kelubashi --help" --help all
@@ -325,17 +240,7 @@ unread "kelubashi show: $room/missing: cannot be read: No such file or directory
 old_is_whole
 
 # What cannot be written.
-unread "kelubashi results: $room/none/file: cannot be written: No such file or directory: correct the name" results -q "$good" -o "$room/none/file"
-unread "kelubashi results: $room/out: cannot be written: Is a directory: name a file and not a folder" results -q "$good" -o "$room/out"
-unread "kelubashi results: $room/fifo: is no regular file, and is not replaced by one: leave -o out, and let the shell write there" results -q "$good" -o "$room/fifo"
-[ -p "$room/fifo" ] || fail 'a FIFO is replaced by a file'
-cp "$good" "$room/same"
-ln "$room/same" "$room/same2"
-unread "kelubashi results: $room/same2: is the file that was read, and is not written over: give another name" results "$room/same" -o "$room/same2"
-cmp -s "$good" "$room/same" || fail 'the element file is written over'
-ln -s nowhere "$room/dangling"
-unread "kelubashi results: $room/dangling: cannot be written: No such file or directory: correct the name" results -q "$good" -o "$room/dangling"
-unread "kelubashi results: $room/$(head -c 250 /dev/zero | tr '\0' x): cannot be written: File name too long: give a shorter name" results -q "$good" -o "$room/$(head -c 250 /dev/zero | tr '\0' x)"
+unwritable results "$good"
 
 # Root may read and write every file, so it tries these as nobody.
 chmod 711 "$room"
@@ -360,13 +265,6 @@ old_is_whole
 { echo 'centre 1' && echo 'state 0 0 1 0 0 0 0 0' && yes 'request 0 1' | head -n 1500; } >"$room/full.txt"
 kelubashi 0 elements -q "$room/full.txt" -o "$room/full"
 second <"$room/full" >"$room/full.results"
-limited() {
-    (ulimit -f "$1" && shift && kelubashi 2 "$@")
-    status=$? asked="kelubashi $*, with a limit of file sizes"
-    [ $status -eq 0 ] || exit 1
-    cases=$((cases + 1))
-    [ "$(grep -c 'File too large: look at the limit of file sizes' "$room/said")" -eq 1 ] || fail "$asked: it says '$(cat "$room/said")'"
-}
 for blocks in 1 64; do
     limited $blocks results -q "$room/full" -o "$room/out/file"
     old_is_whole
@@ -375,32 +273,6 @@ limited 1 elements -q "$room/full.txt" -o "$room/out/file"
 old_is_whole
 
 # Standard output: full, closed, a pipe that nobody reads.
-unwritten() {
-    line=$1 status=0
-    shift
-    # shellcheck disable=SC2086 # a list of words
-    $command "$@" >/dev/full 2>"$room/said" || status=$?
-    wanted=2 asked="kelubashi $*, on a full device"
-    held
-    says "$line: standard output: cannot be written: No space left on device: make room on that disk"
-    status=0
-    # shellcheck disable=SC2086 # a list of words
-    $command "$@" >&- 2>"$room/said" || status=$?
-    asked="kelubashi $*, with a closed output"
-    held
-    says "$line: standard output: cannot be written: Bad file descriptor: it is closed: open it"
-    # a pipe whose reader has gone: opened both ways, then to write, then closed but for that
-    exec 4<>"$room/fifo"
-    exec 3>"$room/fifo"
-    exec 4>&-
-    status=0
-    # shellcheck disable=SC2086 # a list of words
-    $command "$@" >&3 2>"$room/said" || status=$?
-    exec 3>&-
-    asked="kelubashi $*, into a pipe that nobody reads"
-    held
-    says "$line: standard output: cannot be written: Broken pipe: its reader went away"
-}
 second <"$room/full" >"$room/full.results"
 unwritten 'kelubashi results' results -q "$room/full"
 unwritten 'kelubashi elements' elements -q "$room/full.txt"
@@ -422,33 +294,7 @@ new_is_whole "$room/example.results"
 
 # ---- A machine that fails on the way: the old file or the new one, whole.
 
-fault 0 few results -q "$room/full" -o "$room/out/file"
-new_is_whole "$room/full.results"
-fault 0 few results -q "$room/full"
-writes "$room/full.results"
-fault 0 'no folder fsync' results -q "$room/full" -o "$room/out/file"
-new_is_whole "$room/full.results"
-for each in 'full:No space left on device: make room on that disk' 'fsync:No space left on device: make room on that disk' \
-    'close:Disk quota exceeded: make room on that disk' 'rename:Input/output error: look at that disk or device' \
-    'fchmod:Operation not permitted: look at the rights of the file and of its folder'; do
-    fault 2 "${each%%:*}" results -q "$room/full" -o "$room/out/file"
-    says "kelubashi results: $room/out/file: cannot be written: ${each#*:}"
-    old_is_whole
-done
-fault 2 full results -q "$room/full"
-says "kelubashi results: standard output: cannot be written: No space left on device: make room on that disk"
-fault 2 unread results -q "$room/full" -o "$room/out/file"
-says "kelubashi results: $room/full: cannot be read: Input/output error: look at that disk or device"
-old_is_whole
-fault 2 folder results -q "$room/full" -o "$room/out/file"
-says "kelubashi results: $room/out/file: is written, and its folder is not on the disk yet: Input/output error: look at that disk"
-new_is_whole "$room/full.results"
-fault 137 kill results -q "$room/full" -o "$room/out/file" 2>"$room/killed"
-cmp -s "$room/kept" "$room/out/file" || fail 'killed between write and rename, the old file is not as it was'
-[ "$(ls -A "$room/out" | wc -l)" -eq 2 ] || fail 'killed between write and rename, it should leave one file'
-rm "$room/out"/file.??????
-kelubashi 0 results -q "$room/full" -o "$room/out/file"
-new_is_whole "$room/full.results"
+survives results "$room/full" "$room/full.results"
 
 # ---- show believes neither file before it is judged.
 

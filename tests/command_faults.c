@@ -1,6 +1,6 @@
 /*
 **  Faults of a machine, for the command: linked with --wrap, these stand before the system's calls, and
-**  one call of the library's; the word in the environment's FAULT says which of them fails, and how.
+**  two calls of the library's; the word in the environment's FAULT says which of them fails, and how.
 */
 #include "kelubashi.h"
 
@@ -18,6 +18,7 @@ ssize_t __real_write(int file, const void *bytes, size_t length);
 ssize_t __real_read(int file, void *bytes, size_t length);
 uint64_t __real_kelubashi1_summary(const uint64_t *states, size_t words, uint64_t count, uint64_t centres,
                                    uint64_t *list, size_t k, uint64_t *answer, size_t n);
+uint64_t __real_kelubashi1_check(const uint8_t *file, size_t length, uint64_t *verdicts, size_t k, uint64_t *answer, size_t n);
 
 int __wrap_rename(const char *from, const char *to);
 int __wrap_fsync(int file);
@@ -27,6 +28,7 @@ ssize_t __wrap_write(int file, const void *bytes, size_t length);
 ssize_t __wrap_read(int file, void *bytes, size_t length);
 uint64_t __wrap_kelubashi1_summary(const uint64_t *states, size_t words, uint64_t count, uint64_t centres,
                                    uint64_t *list, size_t k, uint64_t *answer, size_t n);
+uint64_t __wrap_kelubashi1_check(const uint8_t *file, size_t length, uint64_t *verdicts, size_t k, uint64_t *answer, size_t n);
 
 static int reads = 0;   /* calls of read so far */
 
@@ -106,4 +108,14 @@ uint64_t __wrap_kelubashi1_summary(const uint64_t *states, size_t words, uint64_
 {
     return __real_kelubashi1_summary(states, words, count, fault("summary") && reads > 0 ? centres + 1 : centres,
                                      list, k, answer, n);
+}
+
+/* A library that gives no verdicts, or accepts no row, of a file that has been read. */
+uint64_t __wrap_kelubashi1_check(const uint8_t *file, size_t length, uint64_t *verdicts, size_t k, uint64_t *answer, size_t n)
+{
+    uint64_t refusal = __real_kelubashi1_check(file, length, verdicts, fault("no verdicts") && reads > 0 ? 0 : k, answer, n);
+
+    if (refusal == 0 && fault("accepts none") && reads > 0)
+        memset(verdicts, 0, (size_t)answer[1] * sizeof *verdicts);
+    return refusal;
 }

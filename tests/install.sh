@@ -25,7 +25,7 @@ fi
 
 calls=$(grep -o 'kelubashi1_[a-z]*' include/kelubashi.h | sort -u)
 inline='kelubashi_propagate kelubashi_partials kelubashi_refusal_text kelubashi_refusal_advice'
-subcommands='results show elements read centres state selfcheck'
+subcommands='results show elements read centres check rows state selfcheck'
 
 # Only what is in build/ is copied, and under a narrow umask, which must not matter.
 put() {
@@ -55,6 +55,7 @@ put
     echo '644 share/man/man3/kelubashi_selfcheck.3'
     echo '644 share/man/man5/kelubashi-elements.5'
     echo '644 share/man/man5/kelubashi-results.5'
+    echo '644 share/man/man5/kelubashi-rows.5'
     echo "$calls $inline" | tr ' ' '\n' | sed 's|.*|link share/man/man3/&.3 -> kelubashi.3|'
 } | sort >"$room/wanted"
 {
@@ -143,7 +144,7 @@ has() {
 }
 
 for name in propagate.1 kelubashi.1 $(printf 'kelubashi-%s.1 ' $subcommands) kelubashi.3 kelubashi_selfcheck.3 \
-    kelubashi-elements.5 kelubashi-results.5; do
+    kelubashi-elements.5 kelubashi-results.5 kelubashi-rows.5; do
     has "$name" NAME
     has "$name" DESCRIPTION
     has "$name" 'SEE ALSO'
@@ -203,6 +204,7 @@ refuses() {
 cut -d ' ' -f 2 "$room/refusals" | refuses kelubashi.3
 sed -n 's/kelubashi1_read //p' "$room/refusals" | grep -vx 60 | refuses kelubashi-elements.5
 sed -n 's/kelubashi1_propagate //p' "$room/refusals" | grep -vx 60 | refuses kelubashi-results.5
+sed -n 's/kelubashi1_check //p' "$room/refusals" | grep -vx -e 26 -e 60 | refuses kelubashi-rows.5
 
 # And call by call.
 summed "$(page kelubashi.3)" | diff "$room/refusals" - || fail 'kelubashi.3: the refusals of a call are marked < as in the header, > as in the page'
@@ -221,7 +223,7 @@ for call in $calls $inline; do
     grep -qx "\.SS $call" "$(page "$call.3")" || fail "$call.3 does not explain $call"
 done
 
-# The examples of the two files are P10's, byte by byte.
+# The examples of the three files are P10's, byte by byte.
 example() {
     sed -n 's/^ *\([0-9][0-9]*\)   \([0-9a-f]\{16\}\)   .*/\1 \2/p' "$(page "$1")" | head -n "$(($(wc -c <"$2") / 8))" >"$room/example"
     od -A d -v -t x8 -w8 "$2" | awk 'NF == 2 { print $1 + 0, $2 }' >"$room/words"
@@ -230,6 +232,8 @@ example() {
 
 example kelubashi-elements.5 crates/propagate/data/p10.elements
 example kelubashi-results.5 crates/propagate/stdout
+sh tests/machine.sh run build/tests/second_rows 0 <crates/propagate/data/p10.elements >"$room/p10.rows"
+example kelubashi-rows.5 "$room/p10.rows"
 
 set_by='not set, since this machine has no groff'
 if command -v groff >/dev/null; then

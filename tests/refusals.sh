@@ -26,7 +26,7 @@ sed -n 's/^| \([0-9][0-9]*\) | \(.*\) | \(.*\) |$/\1|\2|\3/p' README.md | sed 's
 diff "$room/words" "$room/readme" || fail "the header's words are marked <, the README's >"
 
 # A page's entry starts with the words and what to do, each a sentence.
-for page in kelubashi.3 kelubashi-elements.5 kelubashi-results.5; do
+for page in kelubashi.3 kelubashi-elements.5 kelubashi-results.5 kelubashi-rows.5; do
     sed -n '/^\.SH REFUSALS/,/^\.SH EXAMPLES/p' "man/$page" | sed -n '/^\.B [0-9][0-9]*$/{s/^\.B //;N;N;s/\n/|/g;p;}' >"$room/entries"
     [ -s "$room/entries" ] || fail "$page has no refusals"
     while IFS= read -r entry; do

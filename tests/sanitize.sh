@@ -2,7 +2,7 @@
 # The C of host/ and the command on this machine's own processor, with the second program in the library's place: under
 # the sanitizers of addresses and of undefined behaviour, and under valgrind.
 #
-#     sanitize.sh                        the cases of tests/command.sh, and some damaged inputs
+#     sanitize.sh                        the cases of tests/command.sh and tests/command_rows.sh, and some damaged inputs
 #     sanitize.sh fuzz N SEED [FIRST]    N damaged inputs of a seed, from number FIRST on
 set -eu
 cd "$(dirname "$0")/.."
@@ -35,7 +35,7 @@ fi
 command='command/*.c command/parts/*.c host/kelubashi_selfcheck.c tests/second_library.c'
 second=$(printf 'tests/second/%s.c ' root series revolutions search states walk files summary rows)
 drive=$(printf 'tests/%s.c ' drive orbits sections damaged)
-wrapped=$(printf ' -Wl,--wrap=%s' rename fsync close fchmod write read kelubashi1_summary)
+wrapped=$(printf ' -Wl,--wrap=%s' rename fsync close fchmod write read kelubashi1_summary kelubashi1_check)
 
 # One name is linked of these files; nothing is compiled twice, however many names there are.
 compile() {
@@ -83,7 +83,9 @@ if [ "${1:-}" = fuzz ]; then
     exit
 fi
 
-sh tests/command.sh 'under sanitizers' "$folder/kelubashi" "$folder/kelubashi_faulty"
+for script in tests/command.sh tests/command_rows.sh; do
+    sh $script 'under sanitizers' "$folder/kelubashi" "$folder/kelubashi_faulty"
+done
 "$folder/example" >"$room/printed" || fail 'host/example.c fails'
 "$folder/damaged_command" "$files"
 
@@ -105,12 +107,19 @@ grind 1 "$kelubashi" results $example -o "$files/results"
 grind 1 "$kelubashi" show $example "$files/results"
 grind 0 "$kelubashi" read $example
 grind 0 "$kelubashi" centres $example
+grind 1 "$kelubashi" rows $example -o "$files/rows"
+grind 0 "$kelubashi" check "$files/rows"
+{ head -c 100 "$files/rows" && printf x && tail -c +102 "$files/rows"; } >"$files/changed"
+grind 1 "$kelubashi" check "$files/changed"
+head -c 200 "$files/rows" >"$files/torn"
+grind 2 "$kelubashi" check "$files/torn"
 grind 0 "$kelubashi" elements examples/orbits.txt -o "$files/elements"
 head -c 100 "$files/results" >"$files/torn"
 grind 2 "$kelubashi" show $example "$files/torn"
 head -c 100 $example >"$files/short"
 grind 1 "$kelubashi" results "$files/short"
 grind 1 "$kelubashi" centres "$files/short"
+grind 2 "$kelubashi" rows "$files/short"
 printf 'centre 1\nstate 3 0 1 0 0 0 0 0\n' >"$files/listing"
 grind 2 "$kelubashi" elements "$files/listing"
 grind 0 "$kelubashi" state 398600.4418 1131.340 -2282.343 6672.423 -5.64305 4.30333 2.42879 600

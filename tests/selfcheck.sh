@@ -46,6 +46,7 @@ if ! grep -q 'NOT TRIED' "$room/said_fast"; then
         build/libkelubashi.a
     rm -f "$room/results"
     for words in selfcheck 'selfcheck -q' "results examples/orbits.elements -o $room/results" 'read examples/orbits.elements' 'centres examples/orbits.elements' \
+        'check examples/orbits.elements' "rows examples/orbits.elements -o $room/results" \
         'show examples/orbits.elements examples/orbits.elements' 'elements examples/orbits.txt' 'state 0 1 0 0 0 0 0 1'; do
         status=0
         # shellcheck disable=SC2086 # a list of words
