@@ -241,6 +241,7 @@ build/bench/accuracy: bench/accuracy.c $(BESIDE) $(wildcard bench/*.h) include/k
 build/tests/second/selftest: build/tests/second/selftest.o $(SELFTEST) $(SECOND) | machine
 	@$(X86) compile $(STRICT) -o $@ $^ -lm
 
+build/tests/second_rows: build/tests/answered_rows.o
 build/tests/second_results build/tests/second_rows: %: %.o $(SECOND) | machine
 	@$(X86) compile $(STRICT) -o $@ $^ -lm
 

@@ -1,12 +1,13 @@
 /*
-**  The command's subcommands on sound and damaged listings, element files and result files, one after another in
-**  one program, for sanitizers to look on. The library is the second program.
+**  The command's subcommands on sound and damaged listings, element files, result files and files of rows, one after
+**  another in one program, for sanitizers to look on. The library is the second program.
 **
 **     damaged_command FOLDER [N [SEED [FIRST]]]
 **
 **  Each exit status, and each file that is written, is held to what follows from the bytes that were given.
 */
 #include "../command/command.h"
+#include "answered_rows.h"
 #include "drive.h"
 #include "kelubashi.h"
 #include "second/second.h"
@@ -204,6 +205,69 @@ static void try_show(uint64_t number)
     hold(status == wanted, "show ends otherwise");
 }
 
+/* ---- files of rows ---- */
+
+static uint8_t rows[MOST_ROW_BYTES + 8];
+
+/* What check has to answer to these bytes. */
+static enum status verdict_of(size_t length)
+{
+    uint64_t verdicts[MOST_ROWS], answer[2];
+    size_t i;
+
+    if (second_check(rows, length, verdicts, MOST_ROWS, answer, 2) != 0)
+        return NOT_DONE;
+    for (i = 0; i < answer[1]; i++)
+        if (verdicts[i] != 1)
+            return SOMETHING_AMISS;
+    return ALL_WELL;
+}
+
+/* Damages a file of rows: its count, a word by its last place or its sign, or as any file. */
+static size_t damage_rows(size_t length)
+{
+    size_t word = 8 * any_below(length / 8);
+
+    switch (any_below(5)) {
+    case 0:
+        rows[any_below(2)] = (uint8_t)any_word();
+        return length;
+    case 1:
+        rows[word] ^= 1;
+        return length;
+    case 2:
+        rows[word + 7] ^= 128;
+        return length;
+    default:
+        return damage(rows, length);
+    }
+}
+
+/* The rows of an element file, held to the second program's; then these, whole or damaged, checked. */
+static void try_rows(uint64_t number)
+{
+    enum status status, wanted = NOT_DONE;
+    size_t length, written;
+
+    give_elements(number);
+    length = answered_rows(file.bytes, file.length, 0, rows);
+    if (length != 0)
+        wanted = right_length == 16 + (length - 8) / (8 * ROW_WORDS) * 88 ? ALL_WELL : SOMETHING_AMISS;
+    status = run(&rows_subcommand, 1, 0);
+    hold(status == wanted, "rows ends otherwise");
+    written = take_written(wrote, sizeof wrote);
+    hold(written == length && memcmp(wrote, rows, length) == 0, "rows writes other bytes");
+    if (length == 0) {
+        memset(rows, 0, 16);
+        length = 16;
+    }
+    length = damage_rows(length);
+    put_file(given_name, rows, length);
+    wanted = verdict_of(length);
+    status = run(&check_subcommand, 0, 0);
+    hold(status == wanted, "check ends otherwise");
+}
+
 /* ---- listings ---- */
 
 static char text[TEXT];
@@ -322,12 +386,20 @@ static void try_listing(uint64_t number)
 static void try_one(uint64_t number)
 {
     number_now = number;
-    if (number % 3 == 0)
-        try_listing(number / 3);
-    else if (number % 3 == 1)
-        try_elements(number / 3);
-    else
-        try_show(number / 3);
+    switch (number % 4) {
+    case 0:
+        try_listing(number / 4);
+        break;
+    case 1:
+        try_elements(number / 4);
+        break;
+    case 2:
+        try_show(number / 4);
+        break;
+    default:
+        try_rows(number / 4);
+        break;
+    }
 }
 
 static int tell(void)

@@ -34,7 +34,7 @@ fi
 
 command='command/*.c command/parts/*.c host/kelubashi_selfcheck.c tests/second_library.c'
 second=$(printf 'tests/second/%s.c ' root series revolutions search states walk files summary rows)
-drive=$(printf 'tests/%s.c ' drive orbits sections damaged)
+drive=$(printf 'tests/%s.c ' drive orbits sections damaged answered_rows)
 wrapped=$(printf ' -Wl,--wrap=%s' rename fsync close fchmod write read kelubashi1_summary kelubashi1_check)
 
 # One name is linked of these files; nothing is compiled twice, however many names there are.
