@@ -157,6 +157,25 @@ refused 6 "$answer" "$(orbit 398600.4418 7000 0 0 0 7.5 0 1e300)"
 refused 7 "$answer" "$(orbit 0 -1e10 0 0 -1e10 0 0 -1000)"
 refused 8 "$answer" "$(orbit -2 1e-150 0 0 0.001 0 0 0)"
 
+# The example of kelubashi-check.1: the rows of examples/orbits.elements, four of them changed.
+example=examples/orbits.elements
+second_rows <$example >"$room/sent"
+set --
+for row in 0 1 2 3 4 5 6 7 8 9 10 11 12; do
+    words=$(od -An -v -t x8 -w144 -j $((8 + 144 * row)) -N 144 "$room/sent")
+    case $row in
+    1) words=$(with "$words" "8=$(printf %016x $((0x$(echo "$words" | cut -d ' ' -f 10) + 1)))") ;;
+    3) words=$(with "$words" "8=$(echo "$words" | cut -d ' ' -f 10 | sed 's/^3/b/')") ;;
+    4) words=$(with "$words" "10=$(printf %016x $((0x$(echo "$words" | cut -d ' ' -f 12) + 1))) 17=$zero") ;;
+    6) words=$(with "$words" "1=$zero 2=$zero 3=$zero") ;;
+    esac
+    set -- "$@" "$words"
+done
+rows "$given" "$@"
+kelubashi 1 check "$given"
+sed -n '/^row 1: /,/^\.EE/p' man/kelubashi-check.1 | sed "\$d; s/\\\\-/-/g; s|^partner\.rows|$given|" >"$room/page"
+diff "$room/page" "$room/wrote" || fail 'the example of kelubashi-check.1, marked <, is not what check shows of it'
+
 # ---- check: files that are refused, with the byte, and whose word that is.
 
 # The given file is refused by $1 at byte $2, where $3 stands; $4 is -q or nothing.
@@ -318,7 +337,6 @@ wait
 writes "$room/expected"
 
 # A refused request has no row, and is told, also with -q.
-example=examples/orbits.elements
 lines="kelubashi rows: $example: request 13, of state 5: refused (3): the position is the centre's, or so near that its square is zero; check x, y and z: they are seen from the centre, in km
 kelubashi rows: $example: request 14, of state 0: refused (6): a trial point lies beyond what doubles hold; check the units, then go there in several shorter intervals"
 second_rows <$example >"$room/expected"
@@ -375,6 +393,12 @@ part 1101 399 0
 part 1200 300 0
 part 1499 1 0
 
+# The example of kelubashi-rows.1.
+kelubashi 1 rows "$room/many" -o "$room/out/file"
+sed -n '/^kelubashi rows: /,/^\.EE/p' man/kelubashi-rows.1 | sed "\$d; s/\\\\-/-/g; s|today\.elements|$room/many|g; s|today\.rows|$room/out/file|g" >"$room/page"
+diff "$room/page" "$room/said" || fail 'the example of kelubashi-rows.1, marked <, is not what rows says of it'
+cp "$room/kept" "$room/out/file"
+
 # The very command, as a shell takes it, until none is left; the names tell the first request.
 mkdir "$room/it's a day"
 cp "$room/many" "$room/it's a day/\$1.elements"
@@ -390,7 +414,7 @@ says ''
 [ "$(find "$room/it's a day" -type f | wc -l)" -eq 5 ] || fail "the commands leave other files: $(ls "$room/it's a day")"
 
 # An element file whose name begins with a minus: the command is run in its folder.
-there=$(for word in $command; do if [ -f "$word" ]; then printf '%s ' "$here/$word"; else printf '%s ' "$word"; fi; done)
+there=$(for word in $command; do if [ -f "$word" ]; then printf '%s ' "$(realpath "$word")"; else printf '%s ' "$word"; fi; done)
 mine=$command command=$there
 cp "$room/many" "$room/-many"
 cd "$room"
