@@ -81,7 +81,7 @@ accuracy: machine build/bench/accuracy
 proved: kit
 	@mkdir -p build
 	@echo 'proved: rt proves what the library and the program rest on, and the program'
-	@rt check states files files_summary propagate >build/proved.log 2>&1 || { cut -c 1-1500 build/proved.log; exit 1; }
+	@rt check states files files_summary files_check propagate >build/proved.log 2>&1 || { cut -c 1-1500 build/proved.log; exit 1; }
 
 # Always asked of rt, which alone knows by content what target/ has proved already. rt ci removes
 # target/ and proves all anew, so a copy stays in build/ for the hosts. What the library rests on comes
@@ -89,7 +89,7 @@ proved: kit
 lib: kit
 	@mkdir -p build
 	@echo 'library: rt proves what target/ does not have yet, then build/libkelubashi.a is written'
-	@{ rt check states files files_results files_summary && rt staticlib kelubashi; } >build/library.log 2>&1 || { cut -c 1-1500 build/library.log; exit 1; }
+	@{ rt check states files files_results files_summary files_check && rt staticlib kelubashi; } >build/library.log 2>&1 || { cut -c 1-1500 build/library.log; exit 1; }
 	@cp target/staticlib/libkelubashi.a build/
 
 # As for the library: rt alone knows what is proved, and a copy stays in build/.
@@ -112,7 +112,7 @@ install-files uninstall: export INTO = $(DESTDIR)$(PREFIX)
 PROGRAMS = propagate kelubashi
 INTERFACE = kelubashi.h kelubashi_selfcheck.h
 PAGES = $(notdir $(wildcard man/*))
-LINKED = $(patsubst %,kelubashi1_%.3,root propagate partials read write results summary append withdraw) \
+LINKED = $(patsubst %,kelubashi1_%.3,root propagate partials read write results check summary append withdraw) \
 	$(patsubst %,kelubashi_%.3,propagate partials refusal_text refusal_advice)
 FOLDERS = bin include lib/pkgconfig share/kelubashi share/man/man1 share/man/man3 share/man/man5
 

@@ -9,7 +9,7 @@
 #include <math.h>
 #include <stdio.h>
 
-enum { FIGURES = ROW_WORDS - ROW_X };
+enum { FIGURES = KELUBASHI_CHECK_ROW - KELUBASHI_CHECK_X };
 
 /*
 **  Where our own call refuses the row's input. 31 to 38, 3 and 4 are of the input itself, and no row of it is accepted; 5 to 8 are
@@ -41,9 +41,9 @@ static void show_anomaly(uint64_t theirs, uint64_t ours)
 static void show_figures(const uint64_t *theirs, const uint64_t *ours)
 {
     static const char *const UNITS[] = { "km", "km/s", "km/s^2" };
-    size_t word, first = ROW_X, differ = 0;
+    size_t word, first = KELUBASHI_CHECK_X, differ = 0;
 
-    for (word = ROW_WORDS; word-- > ROW_X;)
+    for (word = KELUBASHI_CHECK_ROW; word-- > KELUBASHI_CHECK_X;)
         if (theirs[word] != ours[word]) {
             first = word;
             differ++;
@@ -52,13 +52,13 @@ static void show_figures(const uint64_t *theirs, const uint64_t *ours)
         printf(", though it is our own answer word for word: the library contradicts itself: install it anew\n");
     else
         printf(": its psi is ours, but %s is %.17g %s, and ours %.17g %s; figures that differ: %lu of %d\n",
-               row_word_name(first), kelubashi_figure(theirs[first]), UNITS[(first - ROW_X) / 3],
-               kelubashi_figure(ours[first]), UNITS[(first - ROW_X) / 3], (unsigned long)differ, (int)FIGURES);
+               row_word_name(first), kelubashi_figure(theirs[first]), UNITS[(first - KELUBASHI_CHECK_X) / 3],
+               kelubashi_figure(ours[first]), UNITS[(first - KELUBASHI_CHECK_X) / 3], (unsigned long)differ, (int)FIGURES);
 }
 
 static void show_row(const struct row_file *rows, size_t row)
 {
-    uint64_t theirs[ROW_WORDS], ours[ROW_WORDS];
+    uint64_t theirs[KELUBASHI_CHECK_ROW], ours[KELUBASHI_CHECK_ROW];
     uint64_t refusal;
 
     copy_row(rows, row, theirs);
@@ -67,8 +67,8 @@ static void show_row(const struct row_file *rows, size_t row)
     printf("row %lu: not accepted", (unsigned long)row);
     if (refusal != 0)
         show_refusal(refusal);
-    else if (theirs[ROW_PSI] != ours[ROW_PSI])
-        show_anomaly(theirs[ROW_PSI], ours[ROW_PSI]);
+    else if (theirs[KELUBASHI_CHECK_PSI] != ours[KELUBASHI_CHECK_PSI])
+        show_anomaly(theirs[KELUBASHI_CHECK_PSI], ours[KELUBASHI_CHECK_PSI]);
     else
         show_figures(theirs, ours);
 }

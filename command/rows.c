@@ -38,7 +38,7 @@ static int is_there(const struct element_file *elements, uint64_t first)
 /* The rows of so many requests. One that is refused has none, which is said. */
 static void make_rows(const struct element_file *elements, size_t first, size_t taken, struct row_file *rows)
 {
-    uint64_t words[ROW_WORDS];
+    uint64_t words[KELUBASHI_CHECK_ROW];
     size_t request;
 
     begin_rows(rows);
@@ -98,7 +98,7 @@ static void say_left(const struct call *call, const struct element_file *element
     if (call->output != NULL)
         name_next(call->output, first, next, name, sizeof name);
     say("%s: requests left over: %lu: a file holds %d rows: make the next with: kelubashi rows --from %lu %s%s%s%s", elements->name,
-        left, (int)MOST_ROWS, (unsigned long)next, here, quoted(elements->name, source),
+        left, (int)KELUBASHI_MOST_CHECK_ROWS, (unsigned long)next, here, quoted(elements->name, source),
         call->output == NULL ? "" : " -o ", call->output == NULL ? "" : quoted(name, target));
 }
 
@@ -114,7 +114,7 @@ static enum status write_rows(const struct call *call, const struct element_file
 {
     static struct row_file rows;
     size_t left = request_count(elements) - first;
-    size_t taken = left < MOST_ROWS ? left : MOST_ROWS;
+    size_t taken = left < KELUBASHI_MOST_CHECK_ROWS ? left : KELUBASHI_MOST_CHECK_ROWS;
 
     make_rows(elements, first, taken, &rows);
     if (write_output(call->output, elements->name, rows.bytes, rows.length) != ALL_WELL)

@@ -190,6 +190,13 @@ uint64_t kelubashi1_partials(uint64_t mu, uint64_t x, uint64_t y, uint64_t z,
 **                      *acceleration at the end (3)
 **
 **  The result file of a refused element file is 24 bytes: 1, 0, and the number of the refusal.
+**
+**  File of rows, by which stations check one another; it has no word for an edition; 8 bytes and 144 a
+**  row, 57,608 at most:
+**
+**     rows          their count, 0 to 400; for each 18 words:
+**                      *mu *x *y *z *vx *vy *vz *tau, the input of kelubashi1_propagate, *psi,
+**                      *position (3), *velocity (3), *acceleration at the end (3)
 */
 enum {
     KELUBASHI_MOST_CENTRES = 16,
@@ -202,6 +209,25 @@ enum {
 
     KELUBASHI_MOST_FILE = 56160,    /* bytes of the longest element file */
     KELUBASHI_MOST_RESULTS = 132016 /* bytes of the longest result file */
+};
+
+/*
+**  The words of a row of a file of rows, by their numbers from 0, and of kelubashi1_check's answer.
+*/
+enum {
+    KELUBASHI_CHECK_MU = 0,         /* the first of the eight input words */
+    KELUBASHI_CHECK_PSI = 8,        /* the anomaly */
+    KELUBASHI_CHECK_X = 9,          /* the first of the nine figures at the end */
+
+    KELUBASHI_CHECK_ROW = 18,       /* words of such a row */
+    KELUBASHI_MOST_CHECK_ROWS = 400,
+    KELUBASHI_MOST_CHECK_FILE = 57608,  /* bytes of the longest file of rows */
+
+    KELUBASHI_CHECK_REFUSAL = 0,    /* the status once more */
+    KELUBASHI_CHECK_PLACE = 1,      /* with 21, 23 and 25 the byte at which the file is refused */
+    KELUBASHI_CHECK_ROWS = 1,       /* with status 0 and with 26 the rows */
+
+    KELUBASHI_CHECK_ANSWER = 2      /* words of the answer run */
 };
 
 /*
@@ -302,6 +328,39 @@ uint64_t kelubashi1_write(const uint64_t *centres, size_t centre_words,
 KELUBASHI_STATUS
 uint64_t kelubashi1_results(const uint8_t *file, size_t length, uint8_t *room, size_t size,
                             uint64_t *answer, size_t n);
+
+/*
+**  Which rows of another station are accepted, without searching again.
+**
+**  Given:
+**     file      the bytes of the file of rows; any bytes may be given
+**     length    their count
+**     k         the count of verdicts; KELUBASHI_MOST_CHECK_ROWS are always enough
+**     n         the count of answer: 2, KELUBASHI_CHECK_ANSWER
+**
+**  Returned:
+**     verdicts  a word for each row, 1 accepted or 0 not, with status 0; words behind them are left,
+**               and under a refusal all are
+**     answer    refusal, then the place of the refusal or the rows
+**
+**  A row is accepted where all of this holds:
+**     -  31 to 38, 3 and 4 of kelubashi1_propagate do not apply to its input;
+**     -  psi is +0 where nothing is left of tau once whole revolutions are off; otherwise psi has the
+**        sign of what is left, and is one of those that kelubashi1_propagate may answer: the computed
+**        time there is what is left, or psi is the one with the smaller error of two neighbouring
+**        doubles as described there;
+**     -  the nine figures at the end are, word for word, those of the formulas at this psi, and 7 and 8
+**        do not apply there.
+**  So every row that kelubashi1_propagate answers is accepted, and also that of a station whose search
+**  goes another way. A row may be accepted though kelubashi1_propagate refuses its input by 5 or 6, or
+**  finds another psi: an input may have several.
+**
+**  Refusals: 21, 23, 25, 26, 60. The file is walked forward as by kelubashi1_read, and the first fault on
+**  the way is told with its place; 26 comes behind them.
+*/
+KELUBASHI_STATUS
+uint64_t kelubashi1_check(const uint8_t *file, size_t length, uint64_t *verdicts, size_t k,
+                          uint64_t *answer, size_t n);
 
 /*
 **  A list of entries beside the states, one entry for each centre: how many states it has and their
@@ -509,14 +568,14 @@ static inline const struct kelubashi_refusal *kelubashi_refusal_of(uint64_t numb
               "fetch the file again, or correct a count that is too large" },
         { 22, "the edition is not 1",
               "look whether it is an element file; if so, use the library of its edition" },
-        { 23, "more than 16 centres, 500 states or 1,500 requests",
+        { 23, "more than 16 centres, 500 states, 1,500 requests or 400 rows",
               "correct the count, or divide the records over several files" },
         { 24, "a state's centre, or a request's state, is not there",
               "correct that number: they start at 0 and stay below the section's count" },
-        { 25, "bytes are left after the last section",
+        { 25, "bytes are left after the last section or row",
               "cut the file there, or correct a count that is too small" },
-        { 26, "the room is too small for the file",
-              "lend as many bytes as the answer says, and call again" },
+        { 26, "the room is too small for the file, or the run for the verdicts",
+              "lend as many bytes, or words for verdicts, as the answer says, and call again" },
         { 27, "a run is not whole records; or of a run of states: not 500, more than 500 in use, or not one to append",
               "give words as the count: 8 for each state, 2 for each request, 4,000 for a run of states, 8 for one to append" },
         { 31, "mu is infinite or a NaN",

@@ -500,9 +500,9 @@ line 'centre 1\ncentre \0001\n' '2: has a NUL byte: write the listing as plain t
 line '# a \000 in a comment\n' '1: has a NUL byte: write the listing as plain text'
 line 'centre \0331\n' "1: '?1' is no figure"
 line "centre 1\n# $(head -c 499 /dev/zero | tr '\0' x)\n" '2: is longer than 500 bytes: divide it, or shorten its comment'
-line "$(yes 'centre 1\n' | head -n 17 | tr -d '\n')" '17: refused (23): more than 16 centres, 500 states or 1,500 requests; correct the count, or divide the records over several files'
-line "$(yes 'centre 1\n' | head -n 40 | tr -d '\n')" '17: refused (23): more than 16 centres, 500 states or 1,500 requests; correct the count, or divide the records over several files'
-line "centre 1\n$(yes "state 0 $state\n" | head -n 501 | tr -d '\n')" '502: refused (23): more than 16 centres, 500 states or 1,500 requests; correct the count, or divide the records over several files'
+line "$(yes 'centre 1\n' | head -n 17 | tr -d '\n')" '17: refused (23): more than 16 centres, 500 states, 1,500 requests or 400 rows; correct the count, or divide the records over several files'
+line "$(yes 'centre 1\n' | head -n 40 | tr -d '\n')" '17: refused (23): more than 16 centres, 500 states, 1,500 requests or 400 rows; correct the count, or divide the records over several files'
+line "centre 1\n$(yes "state 0 $state\n" | head -n 501 | tr -d '\n')" '502: refused (23): more than 16 centres, 500 states, 1,500 requests or 400 rows; correct the count, or divide the records over several files'
 unread "kelubashi elements: /dev/zero: is no listing: it is longer than 4194304 bytes" elements /dev/zero
 unread "kelubashi elements: '$room/good.txt' is one word too many: usage: kelubashi elements LISTING [-o ELEMENTS]" elements "$room/good.txt" "$room/good.txt"
 

@@ -7,13 +7,13 @@
 #include <stdio.h>
 #include <string.h>
 
-enum { ROW_BYTES = 8 * ROW_WORDS, CHECK_PLACE = 1, CHECK_ANSWER = 2 };
+enum { ROW_BYTES = 8 * KELUBASHI_CHECK_ROW };
 
 /* ---- words ---- */
 
 const char *row_word_name(size_t word)
 {
-    static const char *const NAMES[ROW_WORDS] = {
+    static const char *const NAMES[KELUBASHI_CHECK_ROW] = {
         "mu", "x", "y", "z", "vx", "vy", "vz", "tau", "psi",
         "end x", "end y", "end z", "end vx", "end vy", "end vz", "end ax", "end ay", "end az"
     };
@@ -35,7 +35,7 @@ void copy_row(const struct row_file *rows, size_t row, uint64_t *words)
 {
     size_t word;
 
-    for (word = 0; word < ROW_WORDS; word++)
+    for (word = 0; word < KELUBASHI_CHECK_ROW; word++)
         words[word] = word_from(rows->bytes + row_place(row) + 8 * word);
 }
 
@@ -49,7 +49,7 @@ static void describe(const struct row_file *rows, uint64_t place, char *text, si
     else if (place >= row_place(row_count(rows)))
         snprintf(text, size, "behind the last row");
     else
-        snprintf(text, size, "%s of row %" PRIu64, row_word_name((place - row_place(0)) / 8 % ROW_WORDS),
+        snprintf(text, size, "%s of row %" PRIu64, row_word_name((place - row_place(0)) / 8 % KELUBASHI_CHECK_ROW),
                  (place - row_place(0)) / ROW_BYTES);
 }
 
@@ -68,15 +68,15 @@ static void say_refused_rows(const struct row_file *rows, uint64_t refusal, uint
 
 int take_rows(const char *name, struct row_file *rows)
 {
-    uint64_t answer[CHECK_ANSWER] = { 0, 0 };
+    uint64_t answer[KELUBASHI_CHECK_ANSWER] = { 0, 0 };
     uint64_t refusal;
 
     rows->name = name;
     if (!read_whole(name, rows->bytes, sizeof rows->bytes, &rows->length))
         return 0;
-    refusal = kelubashi1_check(rows->bytes, rows->length, rows->verdicts, MOST_ROWS, answer, CHECK_ANSWER);
+    refusal = kelubashi1_check(rows->bytes, rows->length, rows->verdicts, KELUBASHI_MOST_CHECK_ROWS, answer, KELUBASHI_CHECK_ANSWER);
     if (refusal != 0)
-        say_refused_rows(rows, refusal, answer[CHECK_PLACE]);
+        say_refused_rows(rows, refusal, answer[KELUBASHI_CHECK_PLACE]);
     return refusal == 0;
 }
 
@@ -105,7 +105,7 @@ void add_row(struct row_file *rows, const uint64_t *words)
 {
     size_t word;
 
-    for (word = 0; word < ROW_WORDS; word++)
+    for (word = 0; word < KELUBASHI_CHECK_ROW; word++)
         put_word(rows->bytes + rows->length + 8 * word, words[word]);
     put_word(rows->bytes, row_count(rows) + 1);
     rows->length += ROW_BYTES;
@@ -117,7 +117,7 @@ uint64_t answer_row(uint64_t *words)
     uint64_t refusal = kelubashi1_propagate(words[0], words[1], words[2], words[3], words[4], words[5], words[6], words[7],
                                             answer, KELUBASHI_ANSWER);
 
-    words[ROW_PSI] = answer[KELUBASHI_PSI];
-    memcpy(words + ROW_X, answer + KELUBASHI_X, (ROW_WORDS - ROW_X) * sizeof *words);
+    words[KELUBASHI_CHECK_PSI] = answer[KELUBASHI_PSI];
+    memcpy(words + KELUBASHI_CHECK_X, answer + KELUBASHI_X, (KELUBASHI_CHECK_ROW - KELUBASHI_CHECK_X) * sizeof *words);
     return refusal;
 }

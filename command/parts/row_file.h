@@ -6,21 +6,11 @@
 
 #include "kelubashi.h"
 
-enum {
-    MOST_ROWS = 400,
-
-    ROW_PSI = 8,        /* behind the eight input words, in the order of the library's call */
-    ROW_X = 9,          /* the first of the nine figures at the end */
-    ROW_WORDS = 18,
-
-    MOST_ROW_FILE = 8 + 8 * ROW_WORDS * MOST_ROWS   /* bytes of the longest */
-};
-
 struct row_file {
     const char *name;
     size_t length;
-    uint64_t verdicts[MOST_ROWS];       /* of kelubashi1_check, for a file that was read */
-    uint8_t bytes[MOST_ROW_FILE + 1];   /* one more than any file that is accepted can have */
+    uint64_t verdicts[KELUBASHI_MOST_CHECK_ROWS];       /* of kelubashi1_check, for a file that was read */
+    uint8_t bytes[KELUBASHI_MOST_CHECK_FILE + 1];       /* one more than any file that is accepted can have */
 };
 
 /* Reads a file and has the library judge its rows. False where it cannot, or where the file is refused, which is then said. */
@@ -31,7 +21,7 @@ size_t row_count(const struct row_file *rows);
 void copy_row(const struct row_file *rows, size_t row, uint64_t *words);
 int is_accepted(const struct row_file *rows, size_t row);
 
-/* A file without rows, and a row more, of MOST_ROWS at most. */
+/* A file without rows, and a row more, of KELUBASHI_MOST_CHECK_ROWS at most. */
 void begin_rows(struct row_file *rows);
 void add_row(struct row_file *rows, const uint64_t *words);
 
