@@ -96,7 +96,7 @@ struct point {
     double radius;
 };
 
-uint64_t sec_place(double psi);
+uint64_t sec_place(double psi); /* the bits of its size */
 /* The point at a place; its psi has the sign of the searched interval, which
  * is no zero. */
 struct point sec_sorted(const struct start *s, uint64_t place);
@@ -153,8 +153,8 @@ struct walk {
 uint64_t sec_word_at(const uint8_t *bytes, uint64_t place);
 struct refusal sec_say(uint64_t number, uint64_t place);
 struct walk sec_walk(const uint8_t *file, uint64_t len); /* at its first byte */
-/* Each of these is 1, and the walk goes on; or it is 0 and the refusal's. */
-int sec_refuse(struct walk *w, uint64_t number, uint64_t place);
+int sec_refuse(struct walk *w, uint64_t number, uint64_t place); /* 0 */
+/* Each of these answers 1 and the walk goes on, or 0 with the refusal noted. */
 int sec_take_word(struct walk *w, uint64_t *word);
 int sec_take_count(struct walk *w, uint64_t limit, uint64_t *count);
 int sec_take_floats(struct walk *w, uint64_t count);

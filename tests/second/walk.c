@@ -69,7 +69,7 @@ int sec_take_floats(struct walk *w, uint64_t count)
     return 1;
 }
 
-/* 25: bytes left after the last section; the place is the first of them. */
+/* 25: bytes left after the last record; the place is the first of them. */
 int sec_take_end(struct walk *w)
 {
     return w->place == w->len || sec_refuse(w, 25, w->place);
