@@ -102,7 +102,11 @@ fn verdict_at(file: &[u8], k: usize) -> u64
     ensures { λ r. ⌜ r ≡ verdictAt (now (file .entry)) k ⌝ }
 {
     let place = row_place(k);
-    verdict_of(given_at(file, place), field(file, place, 8), nine_at(file, place))
+    verdict_of(
+        given_at(file, place),
+        field(file, place, 8),
+        nine_at(file, place),
+    )
 }
 
 // The verdicts on so many rows, one after another, to the front of a run.

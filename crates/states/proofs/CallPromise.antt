@@ -44,7 +44,7 @@ use Rattle.states_start.specs.declared.figures.Read.the-variants as read
 use Rattle.states_start.specs.declared.figures.Begun.the-variants as begun
 use Rattle.states_start.specs.declared.figures.Begun.{Begun}
 use Rattle.states_start.specs.declared.figures.Start.{Start}
-use Rattle.states.specs.Call.{Parting, wholly, noResults, refused, answered, reachedFound, reachedOverBy, reachedFromBy, reachedBegunBy, reachedOrbitBy, reachedReadBy, reachedWordsBy, endedAnswer, answerFrom, propagateBy}
+use Rattle.states.specs.Call.{Finder, searching, Parting, wholly, noResults, refused, answered, reachedFound, reachedOverBy, reachedFromBy, reachedBegunBy, reachedOrbitBy, reachedReadBy, reachedWordsBy, endedAnswer, answerFrom, propagateBy}
 use Rattle.states.specs.WithPartials.{withPartials, endedWith, lentEnded, partialsFrom, lentFrom, partialsBy, lentBy}
 use Rattle.states.specs.CallPromise.{ZerosOrAnswer, UnchangedOrAnswer, Searches, intervalIn, searchedIn, Reports, FindsAnomaly, CountsPoints, SearchesFinite, AtOnce, NothingSearched, Else01Stands}
 use Rattle.states.specs.declared.figures.Reached.{Reached}
@@ -74,7 +74,7 @@ by-clean (reached.Refused k n) = refused-clean k n
 
 pub zeros-or-answer : ZerosOrAnswer
 unfolding propagateBy
-zeros-or-answer pt pr words = by-clean (reachedWordsBy pt pr words)
+zeros-or-answer pt pr words = by-clean (reachedWordsBy pt (searching pr) words)
 
 -- With the lent run beside it.
 abbrev Kept : Answer → (run after : List ℕ) → Type 0
@@ -104,24 +104,28 @@ length-kept false x run = by-kept x run
 
 pub unchanged-or-answer : UnchangedOrAnswer
 unfolding partialsBy lentBy
-unchanged-or-answer pt pr words run = length-kept (not (eqb (length run) 36)) (reachedWordsBy pt pr words) run
+unchanged-or-answer pt pr words run = length-kept (not (eqb (length run) 36)) (reachedWordsBy pt (searching pr) words) run
 
 -- ---- Demand 3
 
 -- What the search of an interval ends with.
 abbrev pub foundBy : Proposing → Initial → Seconds → Finding
-foundBy pr i tau = searchBy (pr i tau) i tau (firstStepOf i tau)
+foundBy pr i tau = searching pr i tau (firstStepOf i tau)
 
--- Where the search found ψ, the call goes on from its arc.
-pub reaches : (pt : Parting) (pr : Proposing) (words : List ℕ) (s : Searches pt words) {x : Finding} →
-    foundBy pr (s .start .initial) (searchedIn s) ≡ x → reachedWordsBy pt pr words ≡ reachedFound (s .start) (intervalIn s) x
+-- However the anomaly is come by, the call goes on from what is found.
+pub leads : (pt : Parting) (find : Finder) (words : List ℕ) (s : Searches pt words) {x : Finding} →
+    find (s .start .initial) (searchedIn s) (firstStepOf (s .start .initial) (searchedIn s)) ≡ x → reachedWordsBy pt find words ≡ reachedFound (s .start) (intervalIn s) x
 unfolding reachedWordsBy reachedOrbitBy reachedFromBy reachedOverBy
-reaches pt pr words s e =
+leads pt find words s e =
     let start = s .start in
     let d = intervalIn s in
-    ap (reachedReadBy pt pr) (s .reads) ∙ ap (λ (b : Begun). reachedBegunBy pt pr b (s .whole)) (s .begins)
-    ∙ ap (λ (t : Bool). pick (not t) (reached.Refused 4 0) (reachedFound start d (foundBy pr (start .initial) (d .searched)))) (s .steps)
+    ap (reachedReadBy pt find) (s .reads) ∙ ap (λ (b : Begun). reachedBegunBy pt find b (s .whole)) (s .begins)
+    ∙ ap (λ (t : Bool). pick (not t) (reached.Refused 4 0) (reachedFound start d (find (start .initial) (d .searched) (firstStepOf (start .initial) (d .searched))))) (s .steps)
     ∙ ap (reachedFound start d) e
+
+pub reaches : (pt : Parting) (pr : Proposing) (words : List ℕ) (s : Searches pt words) {x : Finding} →
+    foundBy pr (s .start .initial) (searchedIn s) ≡ x → reachedWordsBy pt (searching pr) words ≡ reachedFound (s .start) (intervalIn s) x
+reaches pt pr words s e = leads pt (searching pr) words s e
 
 -- The results of an arc, or 7 or 8.
 abbrev pub SevenOrEight : Ended → Results → Type 0
@@ -183,7 +187,7 @@ finds-anomaly pt pr words s nonzero findable =
     let i = s .start .initial in
     let g = demand3-by (pr i tau) i tau (firstStepOf i tau) nonzero findable in
     let arc = arcOf (s .start) (intervalIn s) (anomalyAt tau (g .place)) in
-    let x : reachedWordsBy pt pr words ≡ reached.End arc (g .points) = reaches pt pr words s (g .found) in (
+    let x : reachedWordsBy pt (searching pr) words ≡ reached.End arc (g .points) = reaches pt pr words s (g .found) in (
       reports pr (s .start) (intervalIn s) g (rw x (settled (g .points) (endedOf arc) (resultsOf arc) (seven-or-eight arc))),
       λ run h. reports pr (s .start) (intervalIn s) g (rw (eq-eqb (length run) 36 h, x) (settled-with arc (g .points) (endedOf arc) (resultsOf arc) run h (seven-or-eight arc))),
     )
@@ -217,7 +221,7 @@ counts-points pt pr words s nonzero =
     let i = s .start .initial in
     let d = intervalIn s in
     let x = foundBy pr i tau in
-    let e : reachedWordsBy pt pr words ≡ reachedFound (s .start) d x = reaches pt pr words s refl in
+    let e : reachedWordsBy pt (searching pr) words ≡ reachedFound (s .start) d x = reaches pt pr words s refl in
     let counted = promise-by (pr i tau) i tau (firstStepOf i tau) .interval nonzero .counts in (
       ap (λ (r : Reached). answerFrom r .points) e ∙ found-points (s .start) d x ∙ counted,
       λ run h. rw (eq-eqb (length run) 36 h) (ap (λ (r : Reached). partialsFrom r run .points) e ∙ found-with-points (s .start) d x run h ∙ counted),
@@ -234,7 +238,7 @@ nothing-searched pt pr words s zero =
     let psi : Anomaly = record { 0 = n0 } in
     let arc = arcOf (s .start) (intervalIn s) psi in
     let r = resultsOf arc in
-    let x : reachedWordsBy pt pr words ≡ reached.End arc 0 = reaches pt pr words s (promise-by (pr i tau) i tau (firstStepOf i tau) .no-interval zero) in
+    let x : reachedWordsBy pt (searching pr) words ≡ reached.End arc 0 = reaches pt pr words s (promise-by (pr i tau) i tau (firstStepOf i tau) .no-interval zero) in
     let at-once : (a : Answer) → Settled a 0 r → AtOnce a =
     λ a so. (settled-points a 0 r so, λ z. settled-psi a 0 r so z ∙ psi-of (s .start) (intervalIn s) psi) in (
       at-once (propagateBy pt pr words) (rw x (settled 0 (endedOf arc) r (seven-or-eight arc))),
@@ -257,16 +261,16 @@ pub searches-finite : SearchesFinite
 searches-finite pt words s = beyond-step (s .start .initial) (searchedIn s .0) (s .steps)
 
 -- Where nothing comes off, to take revolutions off is to take nothing off.
-module _ (pr : Proposing) where
+module _ (find : Finder) where
   from-begun : (b : Begun) (whole : WholeInterval) → ((s : Start) (c : Course) → b ≡ begun.Start s c → intervalOf c whole .off ≡ off.Nothing)
-      → reachedBegunBy intervalOf pr b whole ≡ reachedBegunBy wholly pr b whole
+      → reachedBegunBy intervalOf find b whole ≡ reachedBegunBy wholly find b whole
   unfolding reachedFromBy
   from-begun (begun.Refused n) whole none = refl
-  from-begun (begun.Start s c) whole none = ap (reachedOverBy pr s) (nothing-off c whole (none s c refl))
+  from-begun (begun.Start s c) whole none = ap (reachedOverBy find s) (nothing-off c whole (none s c refl))
 
   from-read : (r : Read)
       → ((o : Orbit) (whole : WholeInterval) (s : Start) (c : Course) → r ≡ read.Orbit o whole → begunOf o ≡ begun.Start s c → intervalOf c whole .off ≡ off.Nothing)
-      → reachedReadBy intervalOf pr r ≡ reachedReadBy wholly pr r
+      → reachedReadBy intervalOf find r ≡ reachedReadBy wholly find r
   unfolding reachedOrbitBy
   from-read (read.Refused n) none = refl
   from-read (read.Orbit o whole) none = from-begun (begunOf o) whole (λ s c e. none o whole s c refl e)
@@ -274,7 +278,7 @@ module _ (pr : Proposing) where
 pub else-01-stands : Else01Stands
 unfolding reachedWordsBy propagateBy partialsBy lentBy
 else-01-stands pr words none =
-    let e = from-read pr (readOf words) none in (
+    let e = from-read (searching pr) (readOf words) none in (
       ap answerFrom e,
       λ run. (
         ap (λ (x : Reached). pick (not (eqb (length run) 36)) (refused 1 0) (partialsFrom x run)) e,

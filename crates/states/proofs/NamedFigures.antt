@@ -28,7 +28,7 @@ use Rattle.states_start.specs.declared.figures.Read.the-variants as read
 use Rattle.states_start.specs.declared.figures.Begun.{Begun}
 use Rattle.states_start.specs.declared.figures.Begun.the-variants as begun
 use Rattle.states_start.proofs.StartLaws.{names-first, first-bad, refused-first, FiniteBefore, first-at, three-or-four}
-use Rattle.states.specs.Call.{Parting, refused, answered, orbitWords, reachedFound, reachedOverBy, reachedFromBy, reachedBegunBy, reachedOrbitBy, reachedReadBy, reachedWordsBy, answerFrom, propagateBy}
+use Rattle.states.specs.Call.{Finder, searching, Parting, refused, answered, orbitWords, reachedFound, reachedOverBy, reachedFromBy, reachedBegunBy, reachedOrbitBy, reachedReadBy, reachedWordsBy, answerFrom, propagateBy}
 use Rattle.states.specs.WithPartials.{partialsFrom, partialsBy}
 use Rattle.states.specs.CallPromise.{NamesBad, NamesFigure, ByName, CallsName}
 use Rattle.states.specs.declared.figures.Reached.{Reached}
@@ -51,21 +51,21 @@ module _ (s : Start) (d : Interval) where
   found-other (finding.AllShort n) = inr (omega arith, omega arith)
   found-other (finding.Unreadable n) = inr (omega arith, omega arith)
 
-  over-other : (pr : Proposing) → OtherIn (reachedOverBy pr s d)
+  over-other : (find : Finder) → OtherIn (reachedOverBy find s d)
   unfolding reachedOverBy
-  over-other pr = go (not (isFinite (firstStepOf (s .initial) (d .searched) .0))) _ (found-other _)
+  over-other find = go (not (isFinite (firstStepOf (s .initial) (d .searched) .0))) _ (found-other _)
     where
       go : (t : Bool) (x : Reached) → OtherIn x → OtherIn (pick t (reached.Refused 4 0) x)
       go true x h = inr (omega arith, omega arith)
       go false x h = h
 
-module _ (pt : Parting) (pr : Proposing) where
-  begun-other : (b : Begun) (whole : WholeInterval) → ((n : ℕ) → b ≡ begun.Refused n → (n ≡ 3) ⊎ (n ≡ 4)) → OtherIn (reachedBegunBy pt pr b whole)
+module _ (pt : Parting) (find : Finder) where
+  begun-other : (b : Begun) (whole : WholeInterval) → ((n : ℕ) → b ≡ begun.Refused n → (n ≡ 3) ⊎ (n ≡ 4)) → OtherIn (reachedBegunBy pt find b whole)
   unfolding reachedFromBy
-  begun-other (begun.Start s c) whole h = over-other s (pt c whole) pr
+  begun-other (begun.Start s c) whole h = over-other s (pt c whole) find
   begun-other (begun.Refused n) whole h = ⊎-elim (λ e. inr (omega arith, omega arith)) (λ e. inr (omega arith, omega arith)) (h n refl)
 
-  orbit-other : (o : Orbit) (whole : WholeInterval) → OtherIn (reachedOrbitBy pt pr o whole)
+  orbit-other : (o : Orbit) (whole : WholeInterval) → OtherIn (reachedOrbitBy pt find o whole)
   unfolding reachedOrbitBy
   orbit-other o whole = begun-other (begunOf o) whole (three-or-four o)
 
@@ -128,25 +128,25 @@ module _ (words : List ℕ) (eight : length words ≡ 8) (a : Answer)
       }
 
 -- ---- Both calls are such answers.
-module _ (pt : Parting) (pr : Proposing) (words : List ℕ) where
-  reached-figure : (n : ℕ) → readOf words ≡ read.Refused n → reachedWordsBy pt pr words ≡ reached.Refused n 0
+module _ (pt : Parting) (find : Finder) (words : List ℕ) where
+  reached-figure : (n : ℕ) → readOf words ≡ read.Refused n → reachedWordsBy pt find words ≡ reached.Refused n 0
   unfolding reachedWordsBy
-  reached-figure n e = ap (reachedReadBy pt pr) e
+  reached-figure n e = ap (reachedReadBy pt find) e
 
-  reached-other : (o : Orbit) (whole : WholeInterval) → readOf words ≡ read.Orbit o whole → OtherIn (reachedWordsBy pt pr words)
+  reached-other : (o : Orbit) (whole : WholeInterval) → readOf words ≡ read.Orbit o whole → OtherIn (reachedWordsBy pt find words)
   unfolding reachedWordsBy
-  reached-other o whole e = subst OtherIn (sym (ap (reachedReadBy pt pr) e)) (orbit-other pt pr o whole)
+  reached-other o whole e = subst OtherIn (sym (ap (reachedReadBy pt find) e)) (orbit-other pt find o whole)
 
 pub names-figure : NamesFigure
 unfolding propagateBy partialsBy
 names-figure pt pr words eight =
-    let x = reachedWordsBy pt pr words in (
+    let x = reachedWordsBy pt (searching pr) words in (
       names-bad words eight (propagateBy pt pr words)
-          (λ n e. ap answerFrom (reached-figure pt pr words n e))
-          (λ o whole e. answer-other x (reached-other pt pr words o whole e)),
+          (λ n e. ap answerFrom (reached-figure pt (searching pr) words n e))
+          (λ o whole e. answer-other x (reached-other pt (searching pr) words o whole e)),
       λ run h. names-bad words eight (partialsBy pt pr words run)
-          (λ n e. rw (eq-eqb (length run) 36 h) (ap (λ (y : Reached). partialsFrom y run) (reached-figure pt pr words n e)))
-          (λ o whole e. rw (eq-eqb (length run) 36 h) (partials-other x run h (reached-other pt pr words o whole e))),
+          (λ n e. rw (eq-eqb (length run) 36 h) (ap (λ (y : Reached). partialsFrom y run) (reached-figure pt (searching pr) words n e)))
+          (λ o whole e. rw (eq-eqb (length run) 36 h) (partials-other x run h (reached-other pt (searching pr) words o whole e))),
       λ run h. rw (ne-eqb (length run) 36 h),
     )
 

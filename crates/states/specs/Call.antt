@@ -6,6 +6,9 @@ use Prim.Native.Nat.{ℕ}
 use Rattle.bits.specs.Choice.{pick}
 use Rattle.bits.specs.Arithmetic.{n0, isFinite}
 use Rattle.bits.specs.Words.{wordsOf}
+use Rattle.series.specs.declared.figures.Anomaly.{Anomaly}
+use Rattle.series.specs.declared.figures.Seconds.{Seconds}
+use Rattle.search_points.specs.declared.figures.Initial.{Initial}
 use Rattle.search_proposals.specs.Proposals.{threeProposals}
 use Rattle.search.specs.Search.{Proposing, searchBy}
 use Rattle.search.specs.declared.figures.Finding.{Finding}
@@ -27,6 +30,8 @@ use Rattle.states_start.specs.declared.figures.Read.{Read}
 use Rattle.states_start.specs.declared.figures.Read.the-variants as read
 use Rattle.states_start.specs.declared.figures.Begun.{Begun}
 use Rattle.states_start.specs.declared.figures.Begun.the-variants as begun
+use Rattle.states.specs.declared.figures.Seeking.{Seeking}
+use Rattle.states.specs.declared.figures.Seeking.the-variants as seeking
 use Rattle.states.specs.declared.figures.Reached.{Reached}
 use Rattle.states.specs.declared.figures.Reached.the-variants as reached
 use Rattle.states.specs.declared.figures.Answer.{Answer}
@@ -56,13 +61,29 @@ reachedFound s d (finding.AllShort n) = reached.Refused 5 n
 reachedFound s d (finding.Unreadable n) = reached.Refused 6 n
 reachedFound s d (finding.Found psi n) = reached.End (arcOf s d psi) n
 
--- Refusal 4 by H of what is searched; then the search, by any formula that proposes its inner points. Document 01's three are one, and the contracts speak of that.
-unfoldable pub reachedOverBy : Proposing → Start → Interval → Reached
-reachedOverBy pr s d =
+-- How an anomaly of an interval is come by, at the initial figures of a state and with H: by a search, whatever formula proposes its inner points; or it is given, as the
+-- one of another station's row is (T-06).
+abbrev pub Finder : Type 0
+Finder = Initial → Seconds → (h : Anomaly) → Finding
+
+abbrev pub searching : Proposing → Finder
+searching pr i tau h = searchBy (pr i tau) i tau h
+
+abbrev pub taking : Anomaly → Finder
+taking psi i tau h = finding.Found psi 0
+
+-- By document 01's three proposals, of which the contracts speak, or as it is given.
+abbrev pub finderOf : Seeking → Finder
+finderOf seeking.Search = searching threeProposals
+finderOf (seeking.Given psi) = taking psi
+
+-- Refusal 4 by H of what is searched; then the anomaly.
+unfoldable pub reachedOverBy : Finder → Start → Interval → Reached
+reachedOverBy find s d =
     let i = s .initial in
     let tau = d .searched in
     let h = firstStepOf i tau in
-    pick (not (isFinite (h .0))) (reached.Refused 4 0) (reachedFound s d (searchBy (pr i tau) i tau h))
+    pick (not (isFinite (h .0))) (reached.Refused 4 0) (reachedFound s d (find i tau h))
 
 -- What comes off an interval before it is searched. T-04's rule is `intervalOf`, and the contracts speak of that; where nothing comes off (`wholly`), it is the call that
 -- document 01 alone describes.
@@ -72,28 +93,28 @@ Parting = Course → WholeInterval → Interval
 abbrev pub wholly : Parting
 wholly course whole = asItIs whole
 
-unfoldable pub reachedFromBy : Parting → Proposing → Start → Course → WholeInterval → Reached
-reachedFromBy pt pr s c whole = reachedOverBy pr s (pt c whole)
+unfoldable pub reachedFromBy : Parting → Finder → Start → Course → WholeInterval → Reached
+reachedFromBy pt find s c whole = reachedOverBy find s (pt c whole)
 
 -- Refusals 3 and 4 by the orbit.
-abbrev pub reachedBegunBy : Parting → Proposing → Begun → WholeInterval → Reached
-reachedBegunBy pt pr (begun.Refused n) whole = reached.Refused n 0
-reachedBegunBy pt pr (begun.Start s c) whole = reachedFromBy pt pr s c whole
+abbrev pub reachedBegunBy : Parting → Finder → Begun → WholeInterval → Reached
+reachedBegunBy pt find (begun.Refused n) whole = reached.Refused n 0
+reachedBegunBy pt find (begun.Start s c) whole = reachedFromBy pt find s c whole
 
-unfoldable pub reachedOrbitBy : Parting → Proposing → Orbit → WholeInterval → Reached
-reachedOrbitBy pt pr o whole = reachedBegunBy pt pr (begunOf o) whole
+unfoldable pub reachedOrbitBy : Parting → Finder → Orbit → WholeInterval → Reached
+reachedOrbitBy pt find o whole = reachedBegunBy pt find (begunOf o) whole
 
 -- The eight words of a call, by their names.
 abbrev pub orbitWords : (mu x y z vx vy vz tau : ℕ) → List ℕ
 orbitWords mu x y z vx vy vz tau = mu ∷ x ∷ y ∷ z ∷ vx ∷ vy ∷ vz ∷ tau ∷ []
 
 -- T-05: "31 to 38 replace 2, at its place", before all others but 1.
-abbrev pub reachedReadBy : Parting → Proposing → Read → Reached
-reachedReadBy pt pr (read.Refused n) = reached.Refused n 0
-reachedReadBy pt pr (read.Orbit o whole) = reachedOrbitBy pt pr o whole
+abbrev pub reachedReadBy : Parting → Finder → Read → Reached
+reachedReadBy pt find (read.Refused n) = reached.Refused n 0
+reachedReadBy pt find (read.Orbit o whole) = reachedOrbitBy pt find o whole
 
-unfoldable pub reachedWordsBy : Parting → Proposing → List ℕ → Reached
-reachedWordsBy pt pr words = reachedReadBy pt pr (readOf words)
+unfoldable pub reachedWordsBy : Parting → Finder → List ℕ → Reached
+reachedWordsBy pt find words = reachedReadBy pt find (readOf words)
 
 -- Refusals 7 and 8, with the points used.
 unfoldable pub endedAnswer : (points : ℕ) → Ended → Answer
@@ -105,27 +126,9 @@ answerFrom (reached.Refused k n) = refused k n
 answerFrom (reached.End arc n) = endedAnswer n (endedOf arc)
 
 unfoldable pub propagateBy : Parting → Proposing → List ℕ → Answer
-propagateBy pt pr words = answerFrom (reachedWordsBy pt pr words)
+propagateBy pt pr words = answerFrom (reachedWordsBy pt (searching pr) words)
 
--- ---- The same by T-04's rule and the three proposals of document 01.
-abbrev pub reachedOver : Start → Interval → Reached
-reachedOver = reachedOverBy threeProposals
-
-abbrev pub reachedFrom : Start → Course → WholeInterval → Reached
-reachedFrom = reachedFromBy intervalOf threeProposals
-
-abbrev pub reachedBegun : Begun → WholeInterval → Reached
-reachedBegun = reachedBegunBy intervalOf threeProposals
-
-abbrev pub reachedOrbit : Orbit → WholeInterval → Reached
-reachedOrbit = reachedOrbitBy intervalOf threeProposals
-
-abbrev pub reachedRead : Read → Reached
-reachedRead = reachedReadBy intervalOf threeProposals
-
-abbrev pub reachedOf : List ℕ → Reached
-reachedOf = reachedWordsBy intervalOf threeProposals
-
+-- The same by T-04's rule and the three proposals of document 01.
 abbrev pub propagateOf : List ℕ → Answer
 propagateOf = propagateBy intervalOf threeProposals
 

@@ -17,7 +17,7 @@ use Rattle.states_revolutions.specs.Revolutions.{intervalOf}
 use Rattle.states.specs.declared.figures.Reached.{Reached}
 use Rattle.states.specs.declared.figures.Reached.the-variants as reached
 use Rattle.states.specs.declared.figures.Answer.{Answer}
-use Rattle.states.specs.Call.{Parting, refused, answered, reachedWordsBy}
+use Rattle.states.specs.Call.{Parting, refused, answered, searching, reachedWordsBy}
 
 -- The answer, and what the lent run holds afterwards. Where nothing else is refused, refusal 8 by the partials' own divisors and figures.
 unfoldable pub withPartials : Arc → (points : ℕ) → Results → List ℕ → Answer
@@ -41,10 +41,10 @@ lentFrom (reached.End arc n) run = lentEnded arc (endedOf arc) run
 
 -- Refusal 1, before all others: "partials are asked for and the lent run isn't exactly 36 long".
 unfoldable pub partialsBy : Parting → Proposing → List ℕ → List ℕ → Answer
-partialsBy pt pr words run = pick (not (eqb (length run) 36)) (refused 1 0) (partialsFrom (reachedWordsBy pt pr words) run)
+partialsBy pt pr words run = pick (not (eqb (length run) 36)) (refused 1 0) (partialsFrom (reachedWordsBy pt (searching pr) words) run)
 
 unfoldable pub lentBy : Parting → Proposing → List ℕ → List ℕ → List ℕ
-lentBy pt pr words run = pick (not (eqb (length run) 36)) run (lentFrom (reachedWordsBy pt pr words) run)
+lentBy pt pr words run = pick (not (eqb (length run) 36)) run (lentFrom (reachedWordsBy pt (searching pr) words) run)
 
 -- The same by T-04's rule and the three proposals of document 01.
 abbrev pub partialsOf : List ℕ → List ℕ → Answer

@@ -1,9 +1,13 @@
 // The call without partials, and what the two calls share: refusals in order of checking, and the answer.
 ghost use mathlib.Core.Path.{_≡_};
-ghost use Rattle.states.specs.Call.{refused, answered, reachedFound, reachedOver, reachedFrom, reachedOrbit, reachedOf, endedAnswer, propagateOf};
+ghost use Rattle.states.specs.Call.{refused, answered, finderOf, reachedFound, reachedOverBy, reachedFromBy, reachedOrbitBy, reachedWordsBy, endedAnswer, propagateOf};
+ghost use Rattle.states_revolutions.specs.Revolutions.{intervalOf};
 use super::figures::Answer;
 use super::figures::Reached;
+use super::figures::Seeking;
+use search_points::Initial;
 use series::Anomaly;
+use series::Seconds;
 use states_arcs::Ended;
 use states_arcs::Results;
 use states_revolutions::Course;
@@ -53,7 +57,17 @@ pub fn answered_with(points: u64, results: Results) -> Answer
     }
 }
 
-// What a search of the interval reaches from a start: refusals 5 and 6, or the arc of the found anomaly.
+// The anomaly of an interval, or that it was not found. What is given is taken as it is, without a point.
+fn find(initial: Initial, tau: Seconds, h: Anomaly, seeking: Seeking) -> search::Finding
+    ensures { λ r. ⌜ r ≡ finderOf seeking initial tau h ⌝ }
+{
+    match seeking {
+        Seeking::Search => search::search(initial, tau, h),
+        Seeking::Given(psi) => search::Finding::Found { psi, points: 0 },
+    }
+}
+
+// What the anomaly of an interval reaches from a start: refusals 5 and 6, or the arc at it.
 fn reached_found(start: Start, interval: Interval, found: search::Finding) -> Reached
     ensures { λ r. ⌜ r ≡ reachedFound start interval found ⌝ }
 {
@@ -66,9 +80,9 @@ fn reached_found(start: Start, interval: Interval, found: search::Finding) -> Re
     }
 }
 
-// From a start over an interval whose revolutions are off: refusal 4 by H, then the search.
-fn reach_over(start: Start, interval: Interval) -> Reached
-    ensures { λ r. ⌜ r ≡ reachedOver start interval ⌝ }
+// From a start over an interval whose revolutions are off: refusal 4 by H, then the anomaly.
+fn reach_over(start: Start, interval: Interval, seeking: Seeking) -> Reached
+    ensures { λ r. ⌜ r ≡ reachedOverBy (finderOf seeking) start interval ⌝ }
 {
     let initial = start.initial;
     let tau = interval.searched;
@@ -76,32 +90,36 @@ fn reach_over(start: Start, interval: Interval) -> Reached
     if !bits::words::is_finite(h.0) {
         return Reached::Refused(4, 0);
     }
-    reached_found(start, interval, search::search(initial, tau, h))
+    reached_found(start, interval, find(initial, tau, h, seeking))
 }
 
 // From a start over a whole interval: its revolutions come off first. One batch of requests of one orbit can share its start and its course.
-fn reach_from(start: Start, course: Course, whole: WholeInterval) -> Reached
-    ensures { λ r. ⌜ r ≡ reachedFrom start course whole ⌝ }
+fn reach_from(start: Start, course: Course, whole: WholeInterval, seeking: Seeking) -> Reached
+    ensures { λ r. ⌜ r ≡ reachedFromBy intervalOf (finderOf seeking) start course whole ⌝ }
 {
-    reach_over(start, states_revolutions::interval_of(course, whole))
+    reach_over(
+        start,
+        states_revolutions::interval_of(course, whole),
+        seeking,
+    )
 }
 
 // From an orbit over a whole interval: refusals 3 and 4 by the orbit, then the interval.
-fn reach_orbit(orbit: Orbit, whole: WholeInterval) -> Reached
-    ensures { λ r. ⌜ r ≡ reachedOrbit orbit whole ⌝ }
+fn reach_orbit(orbit: Orbit, whole: WholeInterval, seeking: Seeking) -> Reached
+    ensures { λ r. ⌜ r ≡ reachedOrbitBy intervalOf (finderOf seeking) orbit whole ⌝ }
 {
     match states_start::start_of(orbit) {
-        Begun::Start(start, course) => reach_from(start, course, whole),
+        Begun::Start(start, course) => reach_from(start, course, whole, seeking),
         Begun::Refused(refusal) => Reached::Refused(refusal, 0),
     }
 }
 
 // From the eight words: refusals 31 to 38, then the orbit.
-pub fn reach(words: [u64; 8]) -> Reached
-    ensures { λ r. ⌜ r ≡ reachedOf words ⌝ }
+pub fn reach(words: [u64; 8], seeking: Seeking) -> Reached
+    ensures { λ r. ⌜ r ≡ reachedWordsBy intervalOf (finderOf seeking) words ⌝ }
 {
     match states_start::orbit_of(words) {
-        Read::Orbit(orbit, whole) => reach_orbit(orbit, whole),
+        Read::Orbit(orbit, whole) => reach_orbit(orbit, whole, seeking),
         Read::Refused(refusal) => Reached::Refused(refusal, 0),
     }
 }
@@ -120,7 +138,7 @@ fn answer_of(points: u64, end: Ended) -> Answer
 pub fn propagate(words: [u64; 8]) -> Answer
     ensures { λ r. ⌜ r ≡ propagateOf words ⌝ }
 {
-    match reach(words) {
+    match reach(words, Seeking::Search) {
         Reached::End(arc, points) => answer_of(points, states_arcs::ended(arc)),
         Reached::Refused(refusal, points) => refused_with(refusal, points),
     }

@@ -1,8 +1,15 @@
-// Where a search leads, and what goes out.
+// Where the way of an orbit leads, and what goes out.
+use series::Anomaly;
 use states_arcs::Arc;
 use states_arcs::Results;
 
-// Where a search leads: the arc of the found anomaly, with the points used; or a refusal's number with the points used so far.
+// How the anomaly of an interval is come by: searched for, or given by somebody.
+pub enum Seeking {
+    Search,
+    Given(Anomaly),
+}
+
+// Where that leads: the arc of the anomaly, with the points used; or a refusal's number with the points used so far.
 pub enum Reached {
     End(Arc, u64),
     Refused(u64, u64),

@@ -8,6 +8,7 @@ use super::call::reach;
 use super::call::refused_with;
 use super::figures::Answer;
 use super::figures::Reached;
+use super::figures::Seeking;
 use states_arcs::Arc;
 use states_arcs::Ended;
 use states_arcs::Results;
@@ -43,7 +44,7 @@ pub fn propagate_with_partials(words: [u64; 8], run: &mut [u64]) -> Answer
     if run.len() != 36 {
         return refused_with(1, 0);
     }
-    match reach(words) {
+    match reach(words, Seeking::Search) {
         Reached::End(arc, points) => end_with_partials(arc, points, run),
         Reached::Refused(refusal, points) => refused_with(refusal, points),
     }

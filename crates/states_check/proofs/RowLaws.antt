@@ -3,12 +3,12 @@ use mathlib.Core.Path.{_≡_, refl, sym, _∙_, ap, subst}
 use mathlib.Core.Logic.{_⊎_, inl, inr, ⊎-elim}
 use mathlib.Core.Bool.{Bool, true, false, not, true≢false}
 use mathlib.Core.List.{List}
-use Prim.Native.Nat.{ℕ, _+_, _≤_}
+use Prim.Native.Nat.{ℕ, _≤_}
 use native.Mathlib.Omega.{arith}
-use lib.Ieee.{binary64, ofBits, toBits}
+use lib.Ieee.{binary64, toBits}
 use Rattle.bits.specs.Choice.{pick}
 use Rattle.bits.specs.Arithmetic.{isFinite}
-use Rattle.bits.specs.Runs.{firstOf, has, sameWords}
+use Rattle.bits.specs.Runs.{firstOf, has}
 use Rattle.bits.specs.declared.runs.Sought.the-variants.{NotFinite}
 use Rattle.bits.proofs.RunLaws.{same-words, words-same}
 use Rattle.series.specs.declared.figures.Anomaly.{Anomaly}
@@ -36,141 +36,51 @@ use Rattle.states_arcs.specs.declared.figures.Results.{Results}
 use Rattle.states_arcs.specs.declared.figures.Ended.{Ended}
 use Rattle.states_arcs.specs.declared.figures.Ended.the-variants as ended
 use Rattle.states_arcs.proofs.EndLaws.{seven-or-eight}
-use Rattle.states.specs.Call.{refused, answered, reachedFound, reachedOverBy, reachedFromBy, reachedBegunBy, reachedOrbitBy, reachedReadBy, reachedWordsBy, endedAnswer, answerFrom, propagateBy}
+use Rattle.states.specs.Call.{Finder, searching, taking, refused, answered, reachedFound, reachedOverBy, reachedFromBy, reachedBegunBy, reachedOrbitBy, reachedReadBy, reachedWordsBy, endedAnswer, answerFrom, propagateBy}
 use Rattle.states.specs.CallPromise.{Searches, intervalIn, searchedIn}
 use Rattle.states.specs.declared.figures.Answer.{Answer}
 use Rattle.states.specs.declared.figures.Reached.{Reached}
 use Rattle.states.specs.declared.figures.Reached.the-variants as reached
-use Rattle.states.proofs.CallPromise.{foundBy, reaches, Settled, settled, psi-of}
-use Rattle.states_check.specs.Row.{nineWords, proposed, endsWith, acceptsOver, acceptsBegun, acceptsRead, accepts}
+use Rattle.states.proofs.CallPromise.{foundBy, leads, reaches, Settled, settled, psi-of}
+use Rattle.states_check.specs.Row.{nineWords, proposed, endsWith, acceptsAt, acceptsFrom, accepts}
 use Rattle.states_check.specs.RowPromise.{Acceptable, AcceptsSo, AcceptsExactly, anomalyIn, nineIn, AcceptsOwn, BesideCall, NeverRefused}
 
--- ---- Exactly so.
-module _ (given : List ℕ) (anomaly : ℕ) (nine : List ℕ) where
-  -- With an input that gets as far as the search.
-  module _ (s : Searches intervalOf given) where
-    abbrev end : Ended
-    end = endedOf (arcOf (s .start) (intervalIn s) (proposed anomaly))
-
-    by-end : (e : Ended) → end ≡ e → Right (s .start .initial) (searchedIn s) anomaly → endsWith e nine ≡ true → Acceptable given anomaly nine
-    by-end (ended.Results r) e right h = record { searches = s; right = right; results = r; ends = e; figures = same-words (nineWords r) nine h }
-    by-end (ended.Refused k) e right h = absurd (true≢false (sym h))
-
-    by-right : (b : Bool) → isRight (s .start .initial) (searchedIn s) anomaly ≡ b → pick b (endsWith end nine) false ≡ true → Acceptable given anomaly nine
-    by-right true e h = by-end end refl (right-exactly (s .start .initial) (searchedIn s) anomaly .only e) h
-    by-right false e h = absurd (true≢false (sym h))
-
-  module _ (o : Orbit) (whole : WholeInterval) (er : readOf given ≡ read.Orbit o whole) where
-    only-over : (s : Start) (c : Course) → begunOf o ≡ begun.Start s c → acceptsOver s (intervalOf c whole) anomaly nine ≡ true → Acceptable given anomaly nine
-    unfolding acceptsOver
-    only-over s c eb = by-step (isFinite (firstStepOf (s .initial) (intervalOf c whole .searched) .0)) refl
-      where
-        by-step : (b : Bool) → isFinite (firstStepOf (s .initial) (intervalOf c whole .searched) .0) ≡ b
-            → pick b (pick (isRight (s .initial) (intervalOf c whole .searched) anomaly) (endsWith (endedOf (arcOf s (intervalOf c whole) (proposed anomaly))) nine) false) false ≡ true
-            → Acceptable given anomaly nine
-        by-step true e h =
-            by-right (record { orbit = o; whole = whole; start = s; course = c; reads = er; begins = eb; steps = e }) (isRight (s .initial) (intervalOf c whole .searched) anomaly) refl h
-        by-step false e h = absurd (true≢false (sym h))
-
-    only-begun : (b : Begun) → begunOf o ≡ b → acceptsBegun b whole anomaly nine ≡ true → Acceptable given anomaly nine
-    unfolding acceptsBegun
-    only-begun (begun.Start s c) eb h = only-over s c eb h
-    only-begun (begun.Refused k) eb h = absurd (true≢false (sym h))
-
-  only-read : (r : Read) → readOf given ≡ r → acceptsRead r anomaly nine ≡ true → Acceptable given anomaly nine
-  unfolding acceptsRead
-  only-read (read.Orbit o whole) er h = only-begun o whole er (begunOf o) refl h
-  only-read (read.Refused k) er h = absurd (true≢false (sym h))
-
-  only : accepts given anomaly nine ≡ true → Acceptable given anomaly nine
-  unfolding accepts
-  only h = only-read (readOf given) refl h
-
-  -- The other way.
-  module _ (x : Acceptable given anomaly nine) where
-    all-over : acceptsOver (x .searches .start) (intervalIn (x .searches)) anomaly nine ≡ true
-    unfolding acceptsOver
-    all-over =
-        let s = x .searches in
-        rw (s .steps, right-exactly (s .start .initial) (searchedIn s) anomaly .all (x .right), x .ends) (words-same (x .figures))
-
-    all : accepts given anomaly nine ≡ true
-    unfolding accepts acceptsRead acceptsBegun
-    all =
-        let s = x .searches in
-        ap (λ (r : Read). acceptsRead r anomaly nine) (s .reads) ∙ ap (λ (b : Begun). acceptsBegun b (s .whole) anomaly nine) (s .begins) ∙ all-over
-
-pub accepts-exactly : AcceptsExactly
-accepts-exactly given anomaly nine = record { only = only given anomaly nine; all = all given anomaly nine }
-
--- ---- Our own rows. Where the call answers, it got as far as its search, which found ψ, and neither 7 nor 8 applies there.
-record AnsweredAt (pr : Proposing) (given : List ℕ) (a : Answer) : Type 0 where
+-- ---- However an anomaly is come by, an arc is reached where the input gets as far as the search and the anomaly is found; otherwise there is a number.
+record ArcAt (find : Finder) (given : List ℕ) (arc : Arc) (n : ℕ) : Type 0 where
   searches : Searches intervalOf given
   psi : Anomaly
-  points : ℕ
-  found : foundBy pr (searches .start .initial) (searchedIn searches) ≡ finding.Found psi points
-  ends : endedOf (arcOf (searches .start) (intervalIn searches) psi) ≡ ended.Results (a .results)
-  psi-is : a .results .psi ≡ psi
+  found : find (searches .start .initial) (searchedIn searches) (firstStepOf (searches .start .initial) (searchedIn searches)) ≡ finding.Found psi n
+  same : arc ≡ arcOf (searches .start) (intervalIn searches) psi
 
-refusal-of : (k n : ℕ) → refused k n .refusal ≡ k
-unfolding refused
-refusal-of k n = refl
+abbrev Comes : Finder → List ℕ → Reached → Type 0
+Comes find given (reached.End arc n) = ArcAt find given arc n
+Comes find given (reached.Refused k n) = 1 ≤ k
 
-results-of : (n : ℕ) (r : Results) → answered n r .results ≡ r
-unfolding answered
-results-of n r = refl
-
-not-zero : (k n : ℕ) → 1 ≤ k → refused k n .refusal ≡ 0 → ⊥
-not-zero k n l e = omega (arith, refusal-of k n)
-
-module _ (pr : Proposing) (given : List ℕ) where
-  module _ (s : Searches intervalOf given) where
-    by-settled : (psi : Anomaly) (n : ℕ) → foundBy pr (s .start .initial) (searchedIn s) ≡ finding.Found psi n
-        → let arc = arcOf (s .start) (intervalIn s) psi in (endedOf arc ≡ ended.Results (resultsOf arc)) ⊎ ((endedOf arc ≡ ended.Refused 7) ⊎ (endedOf arc ≡ ended.Refused 8))
-        → endedAnswer n (endedOf arc) .refusal ≡ 0 → AnsweredAt pr given (endedAnswer n (endedOf arc))
-    unfolding endedAnswer
-    by-settled psi n f (inl e) z =
-        let r = resultsOf (arcOf (s .start) (intervalIn s) psi) in
-        let same : endedAnswer n (endedOf (arcOf (s .start) (intervalIn s) psi)) .results ≡ r = ap (λ (x : Ended). endedAnswer n x .results) e ∙ results-of n r in
-        record {
-          searches = s;
-          psi = psi;
-          points = n;
-          found = f;
-          ends = e ∙ ap (λ (x : Results). ended.Results x) (sym same);
-          psi-is = ap (λ (x : Results). x .psi) same ∙ psi-of (s .start) (intervalIn s) psi;
-        }
-    by-settled psi n f (inr (inl e)) z = absurd (not-zero 7 n (omega arith) (sym (ap (λ (x : Ended). endedAnswer n x .refusal) e) ∙ z))
-    by-settled psi n f (inr (inr e)) z = absurd (not-zero 8 n (omega arith) (sym (ap (λ (x : Ended). endedAnswer n x .refusal) e) ∙ z))
-
-    by-found : (x : Finding) → foundBy pr (s .start .initial) (searchedIn s) ≡ x → answerFrom (reachedFound (s .start) (intervalIn s) x) .refusal ≡ 0
-        → AnsweredAt pr given (answerFrom (reachedFound (s .start) (intervalIn s) x))
-    unfolding reachedFound
-    by-found (finding.Found psi n) f z = by-settled psi n f (seven-or-eight (arcOf (s .start) (intervalIn s) psi)) z
-    by-found (finding.AllShort n) f z = absurd (not-zero 5 n (omega arith) z)
-    by-found (finding.Unreadable n) f z = absurd (not-zero 6 n (omega arith) z)
+module _ (find : Finder) (given : List ℕ) where
+  from-found : (s : Searches intervalOf given) (x : Finding) → find (s .start .initial) (searchedIn s) (firstStepOf (s .start .initial) (searchedIn s)) ≡ x
+      → Comes find given (reachedFound (s .start) (intervalIn s) x)
+  unfolding reachedFound
+  from-found s (finding.Found psi n) f = record { searches = s; psi = psi; found = f; same = refl }
+  from-found s (finding.AllShort n) f = omega arith
+  from-found s (finding.Unreadable n) f = omega arith
 
   module _ (o : Orbit) (whole : WholeInterval) (er : readOf given ≡ read.Orbit o whole) where
-    from-start : (s : Start) (c : Course) → begunOf o ≡ begun.Start s c → answerFrom (reachedFromBy intervalOf pr s c whole) .refusal ≡ 0
-        → AnsweredAt pr given (answerFrom (reachedFromBy intervalOf pr s c whole))
+    from-start : (s : Start) (c : Course) → begunOf o ≡ begun.Start s c → Comes find given (reachedFromBy intervalOf find s c whole)
     unfolding reachedFromBy reachedOverBy
     from-start s c eb = by-step (isFinite (firstStepOf (s .initial) (intervalOf c whole .searched) .0)) refl
       where
-        after : Bool → Answer
-        after b = answerFrom (pick (not b) (reached.Refused 4 0) (reachedFound s (intervalOf c whole) (foundBy pr (s .initial) (intervalOf c whole .searched))))
+        by-step : (b : Bool) → isFinite (firstStepOf (s .initial) (intervalOf c whole .searched) .0) ≡ b
+            → Comes find given (pick (not b) (reached.Refused 4 0) (reachedFound s (intervalOf c whole) (find (s .initial) (intervalOf c whole .searched) (firstStepOf (s .initial) (intervalOf c whole .searched)))))
+        by-step true e = from-found (record { orbit = o; whole = whole; start = s; course = c; reads = er; begins = eb; steps = e }) _ refl
+        by-step false e = omega arith
 
-        by-step : (b : Bool) → isFinite (firstStepOf (s .initial) (intervalOf c whole .searched) .0) ≡ b → after b .refusal ≡ 0 → AnsweredAt pr given (after b)
-        by-step true e z =
-            by-found (record { orbit = o; whole = whole; start = s; course = c; reads = er; begins = eb; steps = e }) (foundBy pr (s .initial) (intervalOf c whole .searched)) refl z
-        by-step false e z = absurd (not-zero 4 0 (omega arith) z)
+    from-begun : (b : Begun) → begunOf o ≡ b → Comes find given (reachedBegunBy intervalOf find b whole)
+    from-begun (begun.Start s c) eb = from-start s c eb
+    from-begun (begun.Refused k) eb = ⊎-elim (λ e. omega (arith, e)) (λ e. omega (arith, e)) (three-or-four o k eb)
 
-    from-begun : (b : Begun) → begunOf o ≡ b → answerFrom (reachedBegunBy intervalOf pr b whole) .refusal ≡ 0 → AnsweredAt pr given (answerFrom (reachedBegunBy intervalOf pr b whole))
-    from-begun (begun.Start s c) eb z = from-start s c eb z
-    from-begun (begun.Refused k) eb z = absurd (⊎-elim (λ e. omega (arith, e, refusal-of k 0, z)) (λ e. omega (arith, e, refusal-of k 0, z)) (three-or-four o k eb))
-
-    from-orbit : answerFrom (reachedOrbitBy intervalOf pr o whole) .refusal ≡ 0 → AnsweredAt pr given (answerFrom (reachedOrbitBy intervalOf pr o whole))
+    from-orbit : Comes find given (reachedOrbitBy intervalOf find o whole)
     unfolding reachedOrbitBy
-    from-orbit z = from-begun (begunOf o) refl z
+    from-orbit = from-begun (begunOf o) refl
 
   -- A figure's number is no 0.
   figure-number : (k : ℕ) → readOf given ≡ read.Refused k → 1 ≤ k
@@ -181,30 +91,117 @@ module _ (pr : Proposing) (given : List ℕ) where
       go true h = let e : figureRefusal (firstOf NotFinite given) ≡ k = cc in omega (arith, e)
       go false h = absurd (let z : _≡_ {A = ℕ} 0 1 = cc in omega arith)
 
-  from-read : (r : Read) → readOf given ≡ r → answerFrom (reachedReadBy intervalOf pr r) .refusal ≡ 0 → AnsweredAt pr given (answerFrom (reachedReadBy intervalOf pr r))
-  from-read (read.Orbit o whole) er z = from-orbit o whole er z
-  from-read (read.Refused k) er z = absurd (not-zero k 0 (figure-number k er) z)
+  from-read : (r : Read) → readOf given ≡ r → Comes find given (reachedReadBy intervalOf find r)
+  from-read (read.Orbit o whole) er = from-orbit o whole er
+  from-read (read.Refused k) er = figure-number k er
 
-  answered-at : propagateBy intervalOf pr given .refusal ≡ 0 → AnsweredAt pr given (propagateBy intervalOf pr given)
-  unfolding propagateBy reachedWordsBy
-  answered-at z = from-read (readOf given) refl z
+  comes : Comes find given (reachedWordsBy intervalOf find given)
+  unfolding reachedWordsBy
+  comes = from-read (readOf given) refl
+
+-- The start and the interval of an arc are those that it was made of.
+start-of : (s : Start) (d : Interval) (psi : Anomaly) → arcOf s d psi .start ≡ s
+unfolding arcOf
+start-of s d psi = refl
+
+interval-of : (s : Start) (d : Interval) (psi : Anomaly) → arcOf s d psi .interval ≡ d
+unfolding arcOf
+interval-of s d psi = refl
+
+-- ---- Exactly so.
+module _ (given : List ℕ) (anomaly : ℕ) (nine : List ℕ) where
+  module _ (s : Searches intervalOf given) where
+    abbrev arc : Arc
+    arc = arcOf (s .start) (intervalIn s) (proposed anomaly)
+
+    abbrev right : Bool
+    right = isRight (s .start .initial) (searchedIn s) anomaly
+
+    at-arc : acceptsAt arc anomaly nine ≡ pick right (endsWith (endedOf arc) nine) false
+    unfolding acceptsAt arcOf
+    at-arc = refl
+
+    by-end : (e : Ended) → endedOf arc ≡ e → right ≡ true → endsWith e nine ≡ true → Acceptable given anomaly nine
+    by-end (ended.Results r) e t h =
+        record { searches = s; right = right-exactly (s .start .initial) (searchedIn s) anomaly .only t; results = r; ends = e; figures = same-words (nineWords r) nine h }
+    by-end (ended.Refused k) e t h = absurd (true≢false (sym h))
+
+    by-right : (b : Bool) → right ≡ b → pick b (endsWith (endedOf arc) nine) false ≡ true → Acceptable given anomaly nine
+    by-right true e h = by-end (endedOf arc) refl e h
+    by-right false e h = absurd (true≢false (sym h))
+
+  only-from : (x : Reached) → Comes (taking (proposed anomaly)) given x → acceptsFrom x anomaly nine ≡ true → Acceptable given anomaly nine
+  only-from (reached.End arc n) c h =
+      let s = c .searches in
+      let e = c .found in
+      let given-psi : proposed anomaly ≡ c .psi = cc e in
+      let same : arc ≡ arcOf (s .start) (intervalIn s) (proposed anomaly) = c .same ∙ ap (arcOf (s .start) (intervalIn s)) (sym given-psi) in
+      by-right s (right s) refl (sym (at-arc s) ∙ ap (λ (a : Arc). acceptsAt a anomaly nine) (sym same) ∙ h)
+  only-from (reached.Refused k n) c h = absurd (true≢false (sym h))
+
+  only : accepts given anomaly nine ≡ true → Acceptable given anomaly nine
+  unfolding accepts
+  only h = only-from (reachedWordsBy intervalOf (taking (proposed anomaly)) given) (comes (taking (proposed anomaly)) given) h
+
+  all : Acceptable given anomaly nine → accepts given anomaly nine ≡ true
+  unfolding accepts reachedFound
+  all x =
+      let s = x .searches in
+      ap (λ (r : Reached). acceptsFrom r anomaly nine) (leads intervalOf (taking (proposed anomaly)) given s refl)
+      ∙ at-arc s ∙ rw (right-exactly (s .start .initial) (searchedIn s) anomaly .all (x .right), x .ends) (words-same (x .figures))
+
+pub accepts-exactly : AcceptsExactly
+accepts-exactly given anomaly nine = record { only = only given anomaly nine; all = all given anomaly nine }
+
+-- ---- Our own rows.
+refusal-of : (k n : ℕ) → refused k n .refusal ≡ k
+unfolding refused
+refusal-of k n = refl
+
+-- The results of an answer that is not refused are those of its arc.
+by-settled : (arc : Arc) (n : ℕ) → Settled (endedAnswer n (endedOf arc)) n (resultsOf arc) → endedAnswer n (endedOf arc) .refusal ≡ 0
+    → (endedAnswer n (endedOf arc) .results ≡ resultsOf arc)
+unfolding answered
+by-settled arc n (inl e) z = ap (λ (a : Answer). a .results) e
+by-settled arc n (inr (inl e)) z = absurd (omega (arith, z, ap (λ (a : Answer). a .refusal) e, refusal-of 7 n))
+by-settled arc n (inr (inr e)) z = absurd (omega (arith, z, ap (λ (a : Answer). a .refusal) e, refusal-of 8 n))
+
+not-refused : (arc : Arc) (n : ℕ) → endedAnswer n (endedOf arc) .refusal ≡ 0 → endedOf arc ≡ ended.Results (resultsOf arc)
+unfolding endedAnswer
+not-refused arc n z = by (seven-or-eight arc)
+  where
+    by : (endedOf arc ≡ ended.Results (resultsOf arc)) ⊎ ((endedOf arc ≡ ended.Refused 7) ⊎ (endedOf arc ≡ ended.Refused 8)) → endedOf arc ≡ ended.Results (resultsOf arc)
+    by (inl e) = e
+    by (inr (inl e)) = absurd (omega (arith, z, ap (λ (x : Ended). endedAnswer n x .refusal) e, refusal-of 7 n))
+    by (inr (inr e)) = absurd (omega (arith, z, ap (λ (x : Ended). endedAnswer n x .refusal) e, refusal-of 8 n))
+
+module _ (pr : Proposing) (given : List ℕ) where
+  own-from : (x : Reached) → Comes (searching pr) given x → answerFrom x .refusal ≡ 0 → accepts given (anomalyIn (answerFrom x)) (nineIn (answerFrom x)) ≡ true
+  own-from (reached.Refused k n) c z = absurd (omega (arith, c, z, refusal-of k n))
+  own-from (reached.End arc n) c z =
+      let a = endedAnswer n (endedOf arc) in
+      let s = c .searches in
+      let i = s .start .initial in
+      let tau = searchedIn s in
+      let results : a .results ≡ resultsOf arc = by-settled arc n (settled n (endedOf arc) (resultsOf arc) (seven-or-eight arc)) z in
+      let psi : a .results .psi ≡ c .psi = ap (λ (r : Results). r .psi) (results ∙ ap resultsOf (c .same)) ∙ psi-of (s .start) (intervalIn s) (c .psi) in
+      let right = finds-right (pr i tau) i tau (firstStepOf i tau) (c .psi) n (c .found) in
+      let word : toBits binary64 (c .psi .0) ≡ anomalyIn a = ap (λ (x : Anomaly). toBits binary64 (x .0)) (sym psi) in
+      let same : c .psi ≡ proposed (anomalyIn a) = sym (right .same) ∙ ap proposed word in
+      accepts-exactly given (anomalyIn a) (nineIn a) .all
+      (record {
+        searches = s;
+        right = subst (Right i tau) word (right .right);
+        results = a .results;
+        ends =
+            ap endedOf (sym (c .same ∙ ap (arcOf (s .start) (intervalIn s)) same))
+            ∙ not-refused arc n z ∙ ap (λ (r : Results). ended.Results r) (sym results);
+        figures = refl;
+      })
 
 pub accepts-own : AcceptsOwn
-accepts-own pr given z =
-    let a = propagateBy intervalOf pr given in
-    let at = answered-at pr given z in
-    let s = at .searches in
-    let right = finds-right (pr (s .start .initial) (searchedIn s)) (s .start .initial) (searchedIn s) (firstStepOf (s .start .initial) (searchedIn s)) (at .psi) (at .points) (at .found) in
-    let word : toBits binary64 (at .psi .0) ≡ anomalyIn a = ap (λ (x : Anomaly). toBits binary64 (x .0)) (sym (at .psi-is)) in
-    let same : at .psi ≡ proposed (anomalyIn a) = sym (right .same) ∙ ap proposed word in
-    accepts-exactly given (anomalyIn a) (nineIn a) .all
-    (record {
-      searches = s;
-      right = subst (Right (s .start .initial) (searchedIn s)) word (right .right);
-      results = a .results;
-      ends = ap (λ (x : Anomaly). endedOf (arcOf (s .start) (intervalIn s) x)) (sym same) ∙ at .ends;
-      figures = refl;
-    })
+unfolding propagateBy
+accepts-own pr given z = own-from pr given (reachedWordsBy intervalOf (searching pr) given) (comes (searching pr) given) z
 
 -- ---- Beside our own call.
 module _ (s : Start) (d : Interval) where

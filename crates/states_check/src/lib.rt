@@ -1,25 +1,16 @@
 // Layer 4: whether a row of another station is accepted: its eight input words, its anomaly and its nine end figures, held to the rules without a search (document 02, T-06).
 ghost use mathlib.Core.Path.{_≡_};
-ghost use Rattle.states_arcs.specs.Results.{arcOf, endedOf};
-ghost use Rattle.states_start.specs.Initial.{begunOf};
-ghost use Rattle.states_check.specs.Row.{proposed, endsWith, acceptsOver, acceptsBegun, accepts};
+ghost use Rattle.states_check.specs.Row.{endsWith, acceptsAt, accepts};
 use bits::words::double_of;
 use search_check::is_right;
 use series::Anomaly;
+use states::Reached;
+use states::Seeking;
+use states::reach;
+use states_arcs::Arc;
 use states_arcs::Ended;
-use states_arcs::arc_at;
 use states_arcs::ended;
 use states_arcs::figures_of;
-use states_revolutions::Interval;
-use states_revolutions::WholeInterval;
-use states_revolutions::interval_of;
-use states_start::Begun;
-use states_start::Orbit;
-use states_start::Read;
-use states_start::Start;
-use states_start::first_step;
-use states_start::orbit_of;
-use states_start::start_of;
 
 // Whether an arc ends with these nine words, by neither 7 nor 8.
 fn ends_with(end: Ended, nine: [u64; 9]) -> bool
@@ -34,48 +25,22 @@ fn ends_with(end: Ended, nine: [u64; 9]) -> bool
     }
 }
 
-// Whether the arc at a proposed anomaly ends with these nine words.
-fn ends_at(start: Start, interval: Interval, anomaly: u64, nine: [u64; 9]) -> bool
-    ensures { λ r. ⌜ r ≡ endsWith (endedOf (arcOf start interval (proposed anomaly))) nine ⌝ }
+// Whether the anomaly of an arc is right for the interval that is searched, and the arc ends with these nine words.
+fn accepts_at(arc: Arc, anomaly: u64, nine: [u64; 9]) -> bool
+    ensures { λ r. ⌜ r ≡ acceptsAt arc anomaly nine ⌝ }
 {
-    let arc = arc_at(start, interval, Anomaly(double_of(anomaly)));
-    ends_with(ended(arc), nine)
+    if is_right(arc.start.initial, arc.interval.searched, anomaly) {
+        return ends_with(ended(arc), nine);
+    }
+    false
 }
 
-// Whether a row is accepted, from a start over an interval whose revolutions are off: 4 by H, then the anomaly, then the figures at it.
-fn accepts_over(start: Start, interval: Interval, anomaly: u64, nine: [u64; 9]) -> bool
-    ensures { λ r. ⌜ r ≡ acceptsOver start interval anomaly nine ⌝ }
-{
-    let initial = start.initial;
-    let tau = interval.searched;
-    let h = first_step(initial, tau);
-    if !bits::words::is_finite(h.0) {
-        return false;
-    }
-    if !is_right(initial, tau, anomaly) {
-        return false;
-    }
-    ends_at(start, interval, anomaly, nine)
-}
-
-// The same from an orbit over a whole interval: 3 and 4 by the orbit, then its revolutions come off.
-fn accepts_orbit(orbit: Orbit, whole: WholeInterval, anomaly: u64, nine: [u64; 9]) -> bool
-    ensures { λ r. ⌜ r ≡ acceptsBegun (begunOf orbit) whole anomaly nine ⌝ }
-{
-    match start_of(orbit) {
-        Begun::Start(start, course) => {
-            accepts_over(start, interval_of(course, whole), anomaly, nine)
-        }
-        Begun::Refused(_) => false,
-    }
-}
-
-// Whether a row is accepted: `given` are its eight input words, `nine` its position, velocity and end acceleration.
+// Whether a row is accepted: `given` are its eight input words, `nine` its position, velocity and end acceleration. It goes the call's own way, without a search.
 pub fn accepts(given: [u64; 8], anomaly: u64, nine: [u64; 9]) -> bool
     ensures { λ r. ⌜ r ≡ accepts given anomaly nine ⌝ }
 {
-    match orbit_of(given) {
-        Read::Orbit(orbit, whole) => accepts_orbit(orbit, whole, anomaly, nine),
-        Read::Refused(_) => false,
+    match reach(given, Seeking::Given(Anomaly(double_of(anomaly)))) {
+        Reached::End(arc, _) => accepts_at(arc, anomaly, nine),
+        Reached::Refused(_, _) => false,
     }
 }

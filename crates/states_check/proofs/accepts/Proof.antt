@@ -1,43 +1,56 @@
--- Each arm is the definition at what the words were read as.
-use mathlib.Core.Path.{sym, _∙_, ap}
-use Rattle.states_start.specs.declared.figures.Read.{Read}
-use Rattle.states_check.specs.Row.{acceptsRead, accepts}
+-- Each arm is the definition at where the given anomaly led.
+use Prim.Native.Nat.{ℕ}
+use mathlib.Core.Path.{_≡_, refl, sym, _∙_, ap}
+use mathlib.Core.Bool.{Bool}
+use mathlib.Core.List.{List}
+use lib.Ieee.{Float, binary64, ofBits}
 use borrow.Author.Needs.{needs}
+use Rattle.states_revolutions.specs.Revolutions.{intervalOf}
+use Rattle.states.specs.Call.{taking, reachedWordsBy}
+use Rattle.states.specs.declared.figures.Reached.{Reached}
+use Rattle.states_check.specs.Row.{acceptsFrom, accepts}
 use Rattle.states_check.proofs.accepts.Statement.{statement}
 use Rattle.states_check.proofs.accepts.Tie as tie
 
-orbit-of-requires : tie.Need-orbit-of-requires
-orbit-of-requires c κs = search needs
+module _ (given : List ℕ) (anomaly : ℕ) (nine : List ℕ) {psi : Float} (e : psi ≡ ofBits binary64 anomaly) where
+  from-here : {x y : Reached} → x ≡ reachedWordsBy intervalOf (taking (record { 0 = psi })) given → x ≡ y → {r : Bool} → r ≡ acceptsFrom y anomaly nine → r ≡ accepts given anomaly nine
+  unfolding accepts
+  from-here f g h =
+      h ∙ ap (λ (y : Reached). acceptsFrom y anomaly nine) (sym g ∙ f ∙ ap (λ (p : Float). reachedWordsBy intervalOf (taking (record { 0 = p })) given) e)
 
-enum-known-orbit : tie.Need-enum-known-orbit
-enum-known-orbit c = search needs
+double-of-requires : tie.Need-double-of-requires
+double-of-requires c κs = search needs
 
-accepts-orbit-requires : tie.Need-accepts-orbit-requires
-accepts-orbit-requires c κs = search needs
+reach-requires : tie.Need-reach-requires
+reach-requires c κs = search needs
+
+enum-known-arc : tie.Need-enum-known-arc
+enum-known-arc c = search needs
+
+accepts-at-requires : tie.Need-accepts-at-requires
+accepts-at-requires c κs = search needs
 
 enum-told : tie.Need-enum-told
 enum-told c = search needs
 
 returns : tie.Need-returns
-unfolding accepts acceptsRead
 returns c =
-    let a = c .before .before .before .before .before .args in
-    c .accepts-orbit .ensures
-    ∙ ap (λ (r : Read). acceptsRead r (a .anomaly) (a .nine)) (sym (c .before .before .orbit .given .1) ∙ c .before .before .before .before .orbit-of .ensures)
+    let r = c .before .before .before .before in
+    from-here _ _ _ (r .before .double-of .ensures) (r .reach .ensures) (c .before .before .arc .given .1) (c .accepts-at .ensures)
 
 returns-2 : tie.Need-returns-2
-unfolding accepts acceptsRead
 returns-2 c =
-    let a = c .before .before .before .args in
-    ap (λ (r : Read). acceptsRead r (a .anomaly) (a .nine)) (sym (c .enum-told .given .1) ∙ c .before .before .orbit-of .ensures)
+    let r = c .before .before in
+    from-here _ _ _ (r .before .double-of .ensures) (r .reach .ensures) (c .enum-told .given .1) refl
 
 pub accepts-spec : {M : Type 1} → statement M
 accepts-spec =
     tie.close
     (tie.spec
-    orbit-of-requires
-    enum-known-orbit
-    accepts-orbit-requires
+    double-of-requires
+    reach-requires
+    enum-known-arc
+    accepts-at-requires
     enum-told
     returns
     returns-2)

@@ -1,7 +1,7 @@
 -- Each arm is the definition at what the words were read as.
 use mathlib.Core.Path.{sym, _∙_, ap}
 use borrow.Author.Needs.{needs}
-use Rattle.states.specs.Call.{reachedOf, reachedRead, reachedWordsBy}
+use Rattle.states.specs.Call.{reachedReadBy, reachedWordsBy}
 use Rattle.states.proofs.call.reach.Statement.{statement}
 use Rattle.states.proofs.call.reach.Tie as tie
 
@@ -19,11 +19,11 @@ enum-known-refusal c = search needs
 
 returns : tie.Need-returns
 unfolding reachedWordsBy
-returns c = c .reach-orbit .ensures ∙ ap reachedRead (sym (c .before .before .orbit .given .1) ∙ c .before .before .before .before .orbit-of .ensures)
+returns c = c .reach-orbit .ensures ∙ ap (reachedReadBy _ _) (sym (c .before .before .orbit .given .1) ∙ c .before .before .before .before .orbit-of .ensures)
 
 returns-2 : tie.Need-returns-2
 unfolding reachedWordsBy
-returns-2 c = ap reachedRead (sym (c .before .refusal .given .1) ∙ c .before .before .before .orbit-of .ensures)
+returns-2 c = ap (reachedReadBy _ _) (sym (c .before .refusal .given .1) ∙ c .before .before .before .orbit-of .ensures)
 
 pub reach-spec : {M : Type 1} → statement M
 reach-spec =

@@ -1,7 +1,7 @@
 -- The interval is what its function ensures, and where it leads what `reach_over` does.
 use mathlib.Core.Path.{_∙_, ap}
 use borrow.Author.Needs.{needs}
-use Rattle.states.specs.Call.{reachedOver, reachedFromBy}
+use Rattle.states.specs.Call.{reachedOverBy, reachedFromBy}
 use Rattle.states.proofs.call.reach_from.Statement.{statement}
 use Rattle.states.proofs.call.reach_from.Tie as tie
 
@@ -13,7 +13,7 @@ reach-over-requires c κs = search needs
 
 returns : tie.Need-returns
 unfolding reachedFromBy
-returns c = c .reach-over .ensures ∙ ap (reachedOver _) (c .before .interval-of .ensures)
+returns c = c .reach-over .ensures ∙ ap (reachedOverBy _ _) (c .before .interval-of .ensures)
 
 pub reach-from-spec : {M : Type 1} → statement M
 reach-from-spec = tie.close (tie.spec interval-of-requires reach-over-requires returns)

@@ -1,27 +1,25 @@
--- The test of the code is that of the definition, at the H that its function ensures; where it is finite, what the search found leads on.
+-- The test of the code is that of the definition, at the H that its function ensures; where it is finite, what was found leads on.
 use mathlib.Core.Path.{_≡_}
 use mathlib.Core.Bool.{Bool, true, false, not}
 use borrow.Author.Needs.{needs}
 use Rattle.bits.specs.Arithmetic.{isFinite}
 use Rattle.series.specs.declared.figures.Anomaly.{Anomaly}
-use Rattle.search_proposals.specs.Proposals.{threeProposals}
-use Rattle.search.specs.Search.{searchBy}
 use Rattle.search.specs.declared.figures.Finding.{Finding}
 use Rattle.states_revolutions.specs.declared.figures.Interval.{Interval}
 use Rattle.states_start.specs.Initial.{firstStepOf}
 use Rattle.states_start.specs.declared.figures.Start.{Start}
 use Rattle.states.specs.declared.figures.Reached.{Reached}
 use Rattle.states.specs.declared.figures.Reached.the-variants as reached
-use Rattle.states.specs.Call.{reachedFound, reachedOver, reachedOverBy}
+use Rattle.states.specs.Call.{Finder, reachedFound, reachedOverBy}
 use Rattle.states.proofs.call.reach_over.Statement.{statement}
 use Rattle.states.proofs.call.reach_over.Tie as tie
 
-module _ (s : Start) (d : Interval) (h : Anomaly) (eh : h ≡ firstStepOf (s .initial) (d .searched)) {finite : Bool} (ef : finite ≡ isFinite (h .0)) where
-  step-refused : not finite ≡ true → reached.Refused 4 0 ≡ reachedOver s d
+module _ (find : Finder) (s : Start) (d : Interval) (h : Anomaly) (eh : h ≡ firstStepOf (s .initial) (d .searched)) {finite : Bool} (ef : finite ≡ isFinite (h .0)) where
+  step-refused : not finite ≡ true → reached.Refused 4 0 ≡ reachedOverBy find s d
   unfolding reachedOverBy
   step-refused t = rw (← eh, ← ef, t)
 
-  led-on : not finite ≡ false → (f : Finding) → f ≡ searchBy (threeProposals (s .initial) (d .searched)) (s .initial) (d .searched) h → {r : Reached} → r ≡ reachedFound s d f → r ≡ reachedOver s d
+  led-on : not finite ≡ false → (f : Finding) → f ≡ find (s .initial) (d .searched) h → {r : Reached} → r ≡ reachedFound s d f → r ≡ reachedOverBy find s d
   unfolding reachedOverBy
   led-on t f es er = rw (← eh, ← ef, t, ← es) er
 
@@ -32,10 +30,10 @@ is-finite-requires : tie.Need-is-finite-requires
 is-finite-requires c κs = search needs
 
 returns : tie.Need-returns
-returns c = step-refused _ _ _ (c .before .before .first-step .ensures) (c .before .is-finite .ensures) (c .if1 .taken)
+returns c = step-refused _ _ _ _ (c .before .before .first-step .ensures) (c .before .is-finite .ensures) (c .if1 .taken)
 
-search-requires : tie.Need-search-requires
-search-requires c κs = search needs
+find-requires : tie.Need-find-requires
+find-requires c κs = search needs
 
 reached-found-requires : tie.Need-reached-found-requires
 reached-found-requires c κs = search needs
@@ -43,7 +41,7 @@ reached-found-requires c κs = search needs
 returns-2 : tie.Need-returns-2
 returns-2 c =
     let h = c .before .before .before in
-    led-on _ _ _ (h .before .first-step .ensures) (h .is-finite .ensures) (c .before .before .if1 .left) _ (c .before .search .ensures) (c .reached-found .ensures)
+    led-on _ _ _ _ (h .before .first-step .ensures) (h .is-finite .ensures) (c .before .before .if1 .left) _ (c .before .find .ensures) (c .reached-found .ensures)
 
 pub reach-over-spec : {M : Type 1} → statement M
 reach-over-spec =
@@ -52,6 +50,6 @@ reach-over-spec =
     first-step-requires
     is-finite-requires
     returns
-    search-requires
+    find-requires
     reached-found-requires
     returns-2)

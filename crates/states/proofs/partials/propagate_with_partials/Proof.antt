@@ -8,10 +8,16 @@ use borrow.Author.Needs.{needs}
 use lib.ListN.{length}
 use Rattle.bits.specs.Choice.{pick}
 use Rattle.states.specs.declared.figures.Reached.{Reached}
-use Rattle.states.specs.Call.{refused, reachedOf}
+use Rattle.states.specs.Call.{refused, searching, reachedWordsBy}
+use Rattle.search_proposals.specs.Proposals.{threeProposals}
+use Rattle.states_revolutions.specs.Revolutions.{intervalOf}
 use Rattle.states.specs.WithPartials.{partialsFrom, lentFrom, partialsOf, lentOf, partialsBy, lentBy}
 use Rattle.states.proofs.partials.propagate_with_partials.Statement.{statement}
 use Rattle.states.proofs.partials.propagate_with_partials.Tie as tie
+
+-- Where a search leads.
+abbrev reachedOf : List ℕ → Reached
+reachedOf words = reachedWordsBy intervalOf (searching threeProposals) words
 
 module _ (words run : List ℕ) where
   wrong-length : (length run ≡ 36 → ⊥) → (refused 1 0 ≡ partialsOf words run) × (run ≡ lentOf words run)
