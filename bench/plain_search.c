@@ -3,48 +3,7 @@
 **  and of the last two neighbours the nearer one.
 */
 #include "plain_parts.h"
-
-enum sort { SHORT, PAST, EXACT, UNREADABLE };
-
-/* A trial point that was evaluated: its time error, and what the radius there is made of. */
-struct point {
-    double error, c0, s1, s2;
-};
-
-struct end {
-    uint64_t place;
-    double error;
-};
-
-/* The anomaly at a place has the sign of tau. */
-static inline double anomaly_at(uint64_t sign, uint64_t place)
-{
-    return figure_of(place | sign);
-}
-
-/* Evaluates the point at a place above 0 and sorts it. */
-static inline enum sort sort_at(const struct orbit *o, uint64_t sign, uint64_t place, struct point *p)
-{
-    double psi = anomaly_at(sign, place), l = o->alpha * (psi * psi), ahead;
-    struct sums s;
-
-    /* a psi that is not finite leaves no finite L either */
-    if (!isfinite(l))
-        return UNREADABLE;
-    s = sums_of(psi, l);
-    p->c0 = s.c.c0;
-    p->s1 = s.s1;
-    p->s2 = s.s2;
-    p->error = error_of(o, s.s1, s.s2, s.s3);
-
-    /* the error as if tau were above zero */
-    ahead = figure_of(word_of(p->error) ^ sign);
-    if (ahead < 0)
-        return SHORT;
-    if (ahead > 0)
-        return PAST;
-    return ahead == 0 ? EXACT : UNREADABLE;
-}
+#include "plain_point.h"
 
 /*
 **  The first proposal that lies strictly between the two places, or 0. Nothing else needs a test: a
@@ -76,12 +35,6 @@ static inline struct found ended(uint64_t refusal, uint64_t points, double psi)
     f.points = points;
     f.psi = psi;
     return f;
-}
-
-/* The end whose time error is the smaller one, and the low one on a tie. */
-static inline uint64_t nearer(const struct end *low, const struct end *high)
-{
-    return fabs(high->error) < fabs(low->error) ? high->place : low->place;
 }
 
 /* From a short and a past end; the past one was tried last, and p is its point. */
