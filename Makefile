@@ -31,8 +31,8 @@ FIRST = 0
 INPUT =
 
 # The table's rows.
-BENCH = root propagate partials years results summary append withdraw
-BESIDE = bench/plain.c bench/plain_root.c bench/plain_search.c bench/plain_results.c bench/plain_summary.c bench/newton.c bench/orbits.c bench/roster.c bench/empty.c bench/row.c
+BENCH = root propagate partials years results check summary append withdraw
+BESIDE = bench/plain.c bench/plain_root.c bench/plain_search.c bench/plain_results.c bench/plain_check.c bench/plain_summary.c bench/newton.c bench/orbits.c bench/roster.c bench/empty.c bench/row.c
 
 # rt proves so many crates, or tries so many wrong programs, at a time; with fewer processors than that, none waits for the longest of a pair.
 export RT_JOBS = 4

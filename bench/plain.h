@@ -21,6 +21,8 @@ uint64_t plain_partials(uint64_t mu, uint64_t x, uint64_t y, uint64_t z,
 
 uint64_t plain_results(const uint8_t *file, size_t length, uint8_t *room, size_t size, uint64_t *answer, size_t n);
 
+uint64_t plain_check(const uint8_t *file, size_t length, uint64_t *verdicts, size_t k, uint64_t *answer, size_t n);
+
 uint64_t plain_summary(const uint64_t *states, size_t words, uint64_t count, uint64_t centres, uint64_t *list, size_t k,
                        uint64_t *answer, size_t n);
 

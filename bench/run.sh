@@ -1,6 +1,6 @@
 #!/bin/sh
-# Prints the table of the rows given (root, propagate, partials, years, results, summary, append, withdraw), whose programs are in build/bench/, how two of them grow,
-# and the root by classes of numbers.
+# Prints the table of the rows given (root, propagate, partials, years, results, check, summary, append, withdraw), whose programs are in build/bench/, how two of
+# them grow, and the root by classes of numbers.
 #
 # Instructions are counted under the emulator on every machine, so that all count alike. Time is measured
 # on x86-64 alone: under an emulator it says nothing of a station's machine.
@@ -77,9 +77,9 @@ choose() {
 # ROW COLUMN: instructions of all calls of a pass; what is the same in two runs, the start, falls out.
 instructions_of() {
     times=$passes
-    if [ "$1" = results ]; then
-        times=1     # a pass is a whole file
-    fi
+    case $1 in
+    results | check) times=1 ;;     # a pass is a whole file, or four
+    esac
     once=$("$count" "$build/bench/$1" "$2" "$times")
     twice=$("$count" "$build/bench/$1" "$2" $((2 * times)))
     echo $(((twice - once) / times))
@@ -109,6 +109,12 @@ beside() {
         echo "the whole interval searched: $(per_call "$1" years whole); with partials:" \
             "$(per_call "$1" years 'library partials' 'empty partials') library," \
             "$(per_call "$1" years 'plain partials' 'empty partials') plain C"
+        ;;
+    check)
+        echo "in files of 400 rows: $(per_call "$1" check 'library files' 'empty files') library," \
+            "$(per_call "$1" check 'plain files' 'empty files') plain C; a propagation of the same orbits:" \
+            "$(per_call "$1" check 'library propagate' 'empty propagate') library," \
+            "$(per_call "$1" check 'plain propagate' 'empty propagate') plain C"
         ;;
     summary) echo "all entries in one walk: $(per_call "$1" summary one_walk)" ;;
     esac
