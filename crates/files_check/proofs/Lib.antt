@@ -1,4 +1,5 @@
 -- The laws of a file of rows, and what the public function leaves open.
 pub mod Sound
 pub mod Verdicts
+pub mod RowsLaws
 pub mod OneAnswers

@@ -1,0 +1,57 @@
+-- What a file of rows means, said of the rows and not of its bytes: each row has its own verdict, in its own place; and those that we answered ourselves have 1.
+use mathlib.Core.Path.{_≡_}
+use mathlib.Core.List.{List, [], _∷_, _++_, map}
+use Prim.Native.Nat.{ℕ, _≤_, _^_}
+use lib.Dec.{leb}
+use lib.ListN.{length, drop}
+use Rattle.bits.specs.Choice.{pick}
+use Rattle.search.specs.Search.{Proposing}
+use Rattle.states_revolutions.specs.Revolutions.{intervalOf}
+use Rattle.states.specs.Call.{propagateBy}
+use Rattle.states_check.specs.RowPromise.{anomalyIn, nineIn}
+use Rattle.files_words.specs.Bytes.{asBytes, Below}
+use Rattle.files_check.specs.RowsFile.{mostRows, verdictOf, judgedOf, verdictsAfter}
+
+-- "rows with eight input words, a proposed anomaly and the nine end figures".
+pub record Row : Type 0 where
+  pub given : List ℕ
+  pub anomaly : ℕ
+  pub nine : List ℕ
+
+abbrev pub wordsIn : Row → List ℕ
+wordsIn r = r .given ++ (r .anomaly ∷ r .nine)
+
+pub record IsRow (r : Row) : Type 0 where
+  pub eight-given : length (r .given) ≡ 8
+  pub nine-figures : length (r .nine) ≡ 9
+  pub are-words : Below (2 ^ 64) (wordsIn r)
+
+abbrev pub AreRows : List Row → Type 0
+AreRows [] = Unit {0}
+AreRows (r ∷ rs) = IsRow r × AreRows rs
+
+-- "Rows come 18 words each after a count": the bytes of a file of these rows.
+abbrev pub allWords : List Row → List ℕ
+allWords [] = []
+allWords (r ∷ rs) = wordsIn r ++ allWords rs
+
+abbrev pub fileOf : List Row → List ℕ
+fileOf rows = asBytes (length rows ∷ allWords rows)
+
+abbrev pub verdictOn : Row → ℕ
+verdictOn r = verdictOf (r .given) (r .anomaly) (r .nine)
+
+-- A file of up to 400 rows is not refused but by 26; the rows are told; and the verdicts of all stand before what the run held behind them.
+pub record JudgedRows (rows : List Row) (run : List ℕ) : Type 0 where
+  pub answer : judgedOf (fileOf rows) (length run) ≡ record { number = pick (leb (length rows) (length run)) 0 26; «place_or_rows» = length rows }
+  pub verdicts : length rows ≤ length run → verdictsAfter (fileOf rows) run ≡ map verdictOn rows ++ drop (length rows) run
+
+abbrev pub JudgesRows : Type 0
+JudgesRows = (rows : List Row) → AreRows rows → length rows ≤ mostRows → (run : List ℕ) → JudgedRows rows run
+
+-- "Every row we ourselves answer must be accepted": its input with the anomaly and the nine figures of our answer, whatever formula proposes the inner points.
+abbrev pub ourRow : Proposing → (given : List ℕ) → Row
+ourRow pr given = let a = propagateBy intervalOf pr given in record { given = given; anomaly = anomalyIn a; nine = nineIn a }
+
+abbrev pub OurRowsPass : Type 0
+OurRowsPass = (pr : Proposing) (given : List ℕ) → propagateBy intervalOf pr given .refusal ≡ 0 → verdictOn (ourRow pr given) ≡ 1
