@@ -10,37 +10,22 @@
 #define ROW 11     /* words of a row */
 
 static uint64_t read_seen[64], write_seen[64], results_seen[64], rows_seen[256];
-static struct file again, lent_to_library, lent_to_second;
+static struct file again;
 static struct sections taken;
 
 /* ---- reading ---- */
-
-/* A program that reads behind the file finds other bytes there than the other program. */
-static void lend_file(const struct file *f)
-{
-    memcpy(lent_to_library.bytes, f->bytes, f->length);
-    memcpy(lent_to_second.bytes, f->bytes, f->length);
-    memset(lent_to_library.bytes + f->length, 0, 16);
-    memset(lent_to_second.bytes + f->length, 0xFF, 16);
-}
-
-static const uint8_t *bytes_of(const struct file *lent, size_t length)
-{
-    return length ? lent->bytes : NULL;
-}
 
 static void compare_read(const struct file *f)
 {
     size_t count = wrong_count(READ);
 
     lend_both(0);
-    library.status = kelubashi1_read(bytes_of(&lent_to_library, f->length), f->length, answer_of(&library, count),
-                                     count);
+    library.status = kelubashi1_read(library_file(), f->length, answer_of(&library, count), count);
     expect_sixty("read with another count than 8");
 
     lend_both(0);
-    library.status = kelubashi1_read(bytes_of(&lent_to_library, f->length), f->length, library.answer + 1, READ);
-    second.status = second_read(bytes_of(&lent_to_second, f->length), f->length, second.answer + 1, READ);
+    library.status = kelubashi1_read(library_file(), f->length, library.answer + 1, READ);
+    second.status = second_read(second_file(), f->length, second.answer + 1, READ);
     compare("read", READ);
     read_seen[second.status]++;
 }
@@ -59,14 +44,14 @@ static void see_rows(const uint8_t *file, size_t length)
 static void compare_results_in(const char *what, size_t length, size_t room)
 {
     lend_both(room);
-    library.status = kelubashi1_results(bytes_of(&lent_to_library, length), length, room_of(&library), room,
+    library.status = kelubashi1_results(library_file(), length, room_of(&library), room,
                                         library.answer + 1, WRITTEN);
-    second.status = second_results(bytes_of(&lent_to_second, length), length, room_of(&second), room,
+    second.status = second_results(second_file(), length, room_of(&second), room,
                                    second.answer + 1, WRITTEN);
     compare(what, WRITTEN);
     results_seen[second.status]++;
     if (second.status == 0)
-        see_rows(second.room + EDGE, second.answer[2]);
+        see_rows(room_of(&second), second.answer[2]);
 }
 
 /* The room needed is told by the call itself, when there is none. */
@@ -83,7 +68,7 @@ static void compare_results(const struct file *f)
         compare_results_in("results in a larger room", f->length, needed + 1 + any_below(TAIL));
 
     lend(&library, LENT, 24);
-    library.status = kelubashi1_results(bytes_of(&lent_to_library, f->length), f->length, room_of(&library), 24,
+    library.status = kelubashi1_results(library_file(), f->length, room_of(&library), 24,
                                         answer_of(&library, count), count);
     expect_sixty("results with another count than 2");
 }
@@ -146,7 +131,7 @@ static void write_again(const struct file *f)
     taken.request_words = take_run(f, taken.requests, at[4], at[5], REQUEST);
     compare_write(&taken);
     if (second.status != 0 || second.answer[2] != f->length
-        || memcmp(second.room + EDGE, f->bytes, f->length) != 0)
+        || memcmp(room_of(&second), f->bytes, f->length) != 0)
         differs("an accepted file written again");
 }
 
@@ -156,6 +141,7 @@ void ask_file(const char *family, const struct file *f)
     lend_file(f);
     compare_results(f);
     compare_read(f);
+    expect_file_kept();
     if (second.status == 0)
         write_again(f);
 }
@@ -167,7 +153,7 @@ void ask_sections(const char *family, const struct sections *s)
     if (second.status != 0)
         return;
     lay_out(&again, s);
-    if (second.answer[2] != again.length || memcmp(second.room + EDGE, again.bytes, again.length) != 0)
+    if (second.answer[2] != again.length || memcmp(room_of(&second), again.bytes, again.length) != 0)
         differs("another file than its sections");
     lend_file(&again);
     compare_read(&again);

@@ -15,12 +15,12 @@
 #define MOST_RESULTS (16 + 88 * 1500)
 #define MOST_ROOM (MOST_RESULTS + TAIL + 2 * EDGE)
 
-/* What one call gave: its status, its answer with a word before and behind, and its room. */
+/* What one call gave: its status, its answer with a word before and behind, and its room, lent as bytes or as words. */
 struct given {
     uint64_t status;
     uint64_t answer[READ + 2];
-    uint8_t room[MOST_ROOM];
-    size_t room_length;
+    uint64_t room[MOST_ROOM / 8];
+    size_t room_length;     /* in bytes */
 };
 
 extern struct given library, second;
@@ -32,8 +32,14 @@ void lent_for(const char *family, const struct file *file, const struct sections
 void lend(struct given *given, uint64_t mark, size_t room_length);
 void lend_both(size_t room_length);
 
+/* The file in a copy for each program. Behind it stand other bytes in each, so that one that reads on finds something else. */
+void lend_file(const struct file *file);
+
 /* Null where the length is 0. */
+const uint8_t *library_file(void);
+const uint8_t *second_file(void);
 uint8_t *room_of(struct given *given);
+uint64_t *words_of(struct given *given);     /* the room as words */
 uint64_t *answer_of(struct given *given, size_t count);
 
 /* Any count of an answer but the right one. */
@@ -44,6 +50,12 @@ void compare(const char *what, size_t words);
 
 /* The library's status is 60, and nothing is written. */
 void expect_sixty(const char *what);
+
+/* Neither program wrote to its copy of the file, or behind it. */
+void expect_file_kept(void);
+
+/* Whether the library left the bytes around its room, and those of the room from this one on. */
+int room_kept(size_t from);
 
 /* Ends the program with the input and with what both gave. */
 void differs(const char *what);
