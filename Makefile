@@ -197,7 +197,7 @@ commanded: machine command build/tests/kelubashi_faulty build/tests/second_resul
 
 SECOND = $(patsubst %,build/tests/second/%.o,root series revolutions search states walk files summary rows)
 TRACED = $(SECOND:build/tests/second/%=build/tests/traced/%)
-SELFTEST = $(patsubst %,build/tests/second/selftest%.o,_root _calls _search _revolutions _turns _orbits _files _summary _changes _refused _bad _rows _sentence _checked _anomaly _edges _row_file)
+SELFTEST = $(patsubst %,build/tests/second/selftest%.o,_root _calls _search _revolutions _turns _orbits _files _summary _changes _refused _bad _rows _formulas _sentence _checked _anomaly _edges _row_file)
 HEADERS = $(wildcard include/*.h command/*.h command/parts/*.h tests/*.h tests/second/*.h)
 
 # The command: plain C99 and POSIX, with no warning of conversions either.

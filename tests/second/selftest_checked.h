@@ -5,6 +5,7 @@
 #include "selftest.h"
 
 #include "parts.h"
+#include "selftest_formulas.h"
 
 /* The words of a row: the eight that come in, tau the last of them, then the
  * anomaly, then the nine figures. */
@@ -19,10 +20,6 @@ void expect_row(const uint64_t row[ROW_WORDS], int yes, const char *what);
 
 /* The row that the call answers; 0 where it refuses. */
 int own_row(const double e[8], uint64_t row[ROW_WORDS]);
-
-/* A row with the nine figures of the formulas at this psi and for the interval
- * that this start searches, whether 7 or 8 applies to them or not. */
-void put_row(const struct start *s, uint64_t psi, uint64_t row[ROW_WORDS]);
 
 /* T-06's sentence: of the anomaly alone, of 7 and 8, and of the whole row.  The
  * second asks for the row that was put. */

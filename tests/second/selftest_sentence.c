@@ -39,28 +39,6 @@ int own_row(const double e[8], uint64_t row[ROW_WORDS])
 
 /* ---- the sentence ---- */
 
-void put_row(const struct start *s, uint64_t psi, uint64_t row[ROW_WORDS])
-{
-    struct figures at = sec_figures(s, sec_double(psi));
-    double mu = s->mu, r = at.radius, r0 = s->r0;
-    double f = 1 - (mu * at.s2) / r0, g = s->searched - mu * at.s3;
-    double fd = -((mu * at.s1) / (r * r0)), gd = 1 - (mu * at.s2) / r;
-    size_t i;
-
-    row[0] = sec_word(mu);
-    row[TAU] = sec_word(s->whole);
-    row[PSI] = psi;
-    for (i = 0; i < 3; i++) {
-        double x = s->position[i], v = s->velocity[i], p = f * x + g * v;
-
-        row[1 + i] = sec_word(x);
-        row[4 + i] = sec_word(v);
-        row[FIGURES + i] = sec_word(p);
-        row[FIGURES + 3 + i] = sec_word(fd * x + gd * v);
-        row[FIGURES + 6 + i] = sec_word((-mu * p) / ((r * r) * r));
-    }
-}
-
 /* Of two places beside each other and on either side of the time the nearer,
  * the short one on a tie; a NaN is on neither side. */
 int right_psi(const struct start *s, uint64_t psi)
