@@ -16,8 +16,8 @@ X86 = sh tests/machine.sh
 STRICT = -std=c99 -Wall -Wextra -pedantic -Werror -O2 -ffp-contract=off
 TESTS = $(COMPARISONS) build/tests/second/selftest $(GUIDED) build/tests/root build/tests/cases build/tests/case_files
 
-# The library against the second program: states and partials, then files, then the summary.
-COMPARISONS = build/tests/propagate build/tests/files build/tests/summary
+# The library against the second program: states and partials, then files, then the summary, then another station's rows.
+COMPARISONS = build/tests/propagate build/tests/files build/tests/summary build/tests/rows
 
 # The same on inputs that find their own way, by those before them.
 GUIDED = build/tests/guided
@@ -221,8 +221,10 @@ ASK_STATES = $(patsubst %,build/tests/%.o,drive orbits aimed aimed_search aimed_
 ASK_FILES = $(patsubst %,build/tests/%.o,drive orbits sections damaged lent ask_file)
 build/tests/propagate: $(ASK_STATES) build/tests/aims.o $(SECOND)
 ASK_ROSTERS = $(patsubst %,build/tests/%.o,drive orbits records rosters roster_calls held entries rules_summary aims_summary ask_summary)
+ASK_ROWS = $(patsubst %,build/tests/%.o,drive orbits aimed aimed_search aimed_revolutions inputs sections lent other_search made_rows row_files rules_rows aims_rows ask_rows second/selftest_formulas)
 build/tests/files: $(ASK_FILES) $(SECOND)
 build/tests/summary: $(ASK_ROSTERS) $(SECOND)
+build/tests/rows: $(ASK_ROWS) $(SECOND)
 $(GUIDED): $(ASK_STATES) $(ASK_FILES) $(ASK_ROSTERS) $(patsubst %,build/tests/%.o,edges corpus packed changes changes_file changes_roster) $(TRACED)
 
 build/%: %.c $(HEADERS) machine lib

@@ -1,12 +1,10 @@
 #include "aims.h"
 
-#include "kelubashi.h"
+#include "drive.h"
 #include "orbits.h"
 #include "second/parts.h"
 
-#include <inttypes.h>
 #include <stddef.h>
-#include <stdio.h>
 
 #define STEP (UINT64_C(1) << 52)
 
@@ -352,14 +350,6 @@ void aims_see(const uint64_t *words, uint64_t propagated, uint64_t with_partials
 
 int aims_tell(void)
 {
-    int i, missed = 0;
-
     settle_bad();
-    printf("  aims hit:");
-    for (i = 0; i < AIMS; i++) {
-        printf("%s %s %" PRIu64, i ? "," : "", names[i], seen[i]);
-        missed += seen[i] == 0;
-    }
-    printf("\n");
-    return missed;
+    return aims_tell_all(names, seen, AIMS);
 }

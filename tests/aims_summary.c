@@ -1,11 +1,8 @@
 #include "aims_summary.h"
 
+#include "drive.h"
 #include "entries.h"
 #include "orbits.h"
-
-#include <inttypes.h>
-#include <stdio.h>
-#include <string.h>
 
 #define SIGN (UINT64_C(1) << 63)
 #define UNIT (UINT64_C(1) << 52)
@@ -263,13 +260,5 @@ void aims_see_call(const struct made *m)
 
 int aims_summary_tell(void)
 {
-    int i, missed = 0;
-
-    printf("  aims hit:");
-    for (i = 0; i < ROSTER_AIMS; i++) {
-        printf("%s %s %" PRIu64, i ? "," : "", names[i], seen[i]);
-        missed += seen[i] == 0;
-    }
-    printf("\n");
-    return missed;
+    return aims_tell_all(names, seen, ROSTER_AIMS);
 }

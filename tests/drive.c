@@ -205,6 +205,20 @@ int numbers_tell(const char *what, const uint64_t *met, const int *numbers, size
     return missed;
 }
 
+int aims_tell_all(const char *const *names, const uint64_t *hit, size_t count)
+{
+    int missed = 0;
+    size_t i;
+
+    printf("  aims hit:");
+    for (i = 0; i < count; i++) {
+        printf("%s %s %" PRIu64, i ? "," : "", names[i], hit[i]);
+        missed += hit[i] == 0;
+    }
+    printf("\n");
+    return missed;
+}
+
 void words_tell(const char *name, const uint64_t *run, size_t words)
 {
     size_t i;

@@ -61,6 +61,9 @@ void families_tell(const struct families *families);
 /* Prints how often each number was met, of the numbers that a call may give; answers how many never were. */
 int numbers_tell(const char *what, const uint64_t *met, const int *numbers, size_t count);
 
+/* Prints how often each aim of the families was hit; answers how many never were. */
+int aims_tell_all(const char *const *names, const uint64_t *hit, size_t count);
+
 /* Prints a run of words, in full. */
 void words_tell(const char *name, const uint64_t *run, size_t words);
 
