@@ -225,7 +225,7 @@ ASK_ROWS = $(patsubst %,build/tests/%.o,drive orbits aimed aimed_search aimed_re
 build/tests/files: $(ASK_FILES) $(SECOND)
 build/tests/summary: $(ASK_ROSTERS) $(SECOND)
 build/tests/rows: $(ASK_ROWS) $(SECOND)
-$(GUIDED): $(ASK_STATES) $(ASK_FILES) $(ASK_ROSTERS) $(patsubst %,build/tests/%.o,edges corpus packed changes changes_file changes_roster) $(TRACED)
+$(GUIDED): $(ASK_STATES) $(ASK_FILES) $(ASK_ROSTERS) $(ASK_ROWS) $(patsubst %,build/tests/%.o,edges corpus packed changes changes_file changes_roster changes_rows) $(TRACED)
 
 build/%: %.c $(HEADERS) machine lib
 	@mkdir -p $(@D)

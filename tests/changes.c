@@ -16,7 +16,7 @@
 static uint64_t special(void)
 {
     static const uint64_t words[] = {
-        0, 1, 2, 3, 15, 16, 17, 499, 500, 501, 1499, 1500, 1501, 3000, 3002, 4000, 4008, UNIT - 1, UNIT,
+        0, 1, 2, 3, 15, 16, 17, 399, 400, 401, 499, 500, 501, 1499, 1500, 1501, 3000, 3002, 4000, 4008, UNIT - 1, UNIT,
         INFINITE - 1, INFINITE, INFINITE + 1, INFINITE + UNIT / 2, 1023 * UNIT, 1023 * UNIT - 1, 1023 * UNIT + 1,
         UINT64_C(0x00000000FFFFFFFF), UINT64_C(0x0000000100000000), UINT64_C(0x7FFFFFFFFFFFFFFF),
     };
@@ -127,6 +127,8 @@ void change(enum kind kind, struct file *f, const struct file *other)
             change_state(f, other);
         else if (kind == ROSTERS)
             change_roster(f, other);
+        else if (kind == ROWS)
+            change_rows(f, other);
         else
             change_bytes(kind, f, other);
     } while (one_in(2));

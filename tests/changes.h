@@ -15,6 +15,13 @@ void change_bytes(enum kind kind, struct file *input, const struct file *other);
 /* One change of a roster: of its states, its list or its calls. */
 void change_roster(struct file *input, const struct file *other);
 
+/* One change of a file of rows: of its count, its end, or a row. */
+void change_rows(struct file *input, const struct file *other);
+
+/* Some bytes fewer at the end of a file, or more; and the beginning of one with the end of the other. */
+void change_end(struct file *input);
+void splice(struct file *input, const struct file *other);
+
 /* Another word: near it in some way, a special one, or any. */
 uint64_t changed(uint64_t word);
 

@@ -89,8 +89,8 @@ static void change_records(enum kind kind, struct file *f, const struct part *p,
         put_if_there(f, p->count, count + step);
 }
 
-/* The beginning of one and the end of the other, from any two places. */
-static void splice(struct file *f, const struct file *other)
+/* From any two places. */
+void splice(struct file *f, const struct file *other)
 {
     size_t place = 8 * any_below(f->length / 8 + 1), from = one_in(2) ? place : 8 * any_below(other->length / 8 + 1);
     size_t bytes = from < other->length ? other->length - from : 0;
@@ -101,7 +101,7 @@ static void splice(struct file *f, const struct file *other)
     f->length = place + bytes;
 }
 
-static void change_end(struct file *f)
+void change_end(struct file *f)
 {
     size_t bytes = one_in(2) ? 1 + any_below(9) : 8 * any_below(9);
 

@@ -26,7 +26,12 @@ size_t corpus_count(enum kind kind)
 
 size_t corpus_size(void)
 {
-    return corpora[STATES].count + corpora[FILES].count + corpora[SECTIONS].count + corpora[ROSTERS].count;
+    size_t size = 0;
+    int kind;
+
+    for (kind = 0; kind < KINDS; kind++)
+        size += corpora[kind].count;
+    return size;
 }
 
 static void *enough(void *memory)

@@ -6,11 +6,13 @@
 **     guided file NAME                   one file again
 **     guided sections NAME               sections again, from a file that this program wrote
 **     guided roster NAME                 a roster and its calls again, from such a file
+**     guided rows NAME                   one file of rows again
 **
 **  Inputs by which the second program goes a way that it never went before are kept, and changed into others.
-**  They begin with the families of the other three comparisons, and each is asked and compared as there.
+**  They begin with the families of the other four comparisons, and each is asked and compared as there.
 */
 #include "ask_file.h"
+#include "ask_rows.h"
 #include "ask_state.h"
 #include "ask_summary.h"
 #include "changes.h"
@@ -31,7 +33,7 @@
 #define FRESH 2     /* one in so many is so later too; with 1 there is nothing else */
 #endif
 
-static const char *const names[KINDS] = { "state", "file", "sections", "roster" };
+static const char *const names[KINDS] = { "state", "file", "sections", "roster", "rows" };
 
 static const char *program;
 static enum kind kind;
@@ -70,9 +72,12 @@ static void ask(const char *family)
         unpack_sections(&input, &sections);
         ask_sections(family, &sections);
         break;
-    default:
+    case ROSTERS:
         unpack_roster(&input, &roster);
         ask_roster(family, &roster);
+        break;
+    default:
+        ask_rows(family, &input, 0);
         break;
     }
 }
@@ -116,13 +121,37 @@ static const char *fresh_roster(void)
     return family->its.name;
 }
 
+static const char *fresh_rows(void)
+{
+    static uint64_t number;
+    uint64_t turn;
+    const struct row_family *family = row_family(number++, &turn);
+
+    make_rows(family, &input, turn);
+    return family->its.name;
+}
+
+static const char *fresh(void)
+{
+    switch (kind) {
+    case STATES:
+        return fresh_state();
+    case ROSTERS:
+        return fresh_roster();
+    case ROWS:
+        return fresh_rows();
+    default:
+        return fresh_file();
+    }
+}
+
 static void compare_one(uint64_t number)
 {
     const char *family = "changes";
 
-    kind = one_in(2) ? STATES : one_in(4) ? ROSTERS : one_in(4) ? SECTIONS : FILES;
+    kind = one_in(2) ? STATES : one_in(3) ? ROWS : one_in(4) ? ROSTERS : one_in(4) ? SECTIONS : FILES;
     if (number < BEGINNING || one_in(FRESH) || corpus_count(kind) == 0)
-        family = kind == STATES ? fresh_state() : kind == ROSTERS ? fresh_roster() : fresh_file();
+        family = fresh();
     else {
         corpus_take(kind, &input);
         corpus_take(kind, &other);
@@ -175,7 +204,7 @@ static void repeat(void)
 static void wrong_words(void)
 {
     fprintf(stderr, "guided: give guided [N [SEED]], or state and its eight words in hex of 16 digits, "
-                    "or file, sections or roster and a name\n");
+                    "or file, sections, roster or rows and a name\n");
     exit(EXIT_FAILURE);
 }
 

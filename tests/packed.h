@@ -1,7 +1,7 @@
 /*
 **  Inputs of every kind as bytes, so that one corpus has them all, and a file can hold any.
 **
-**  A state is its eight words. A file is itself. Sections are the words of their three runs behind the three
+**  A state is its eight words. A file is itself, and so is a file of rows. Sections are the words of their three runs behind the three
 **  counts of these words; any bytes at all are sections of some kind. A roster is its count, its centres and its
 **  fill, the counts of the records and of the words of the list that are given, these, and calls up to the end;
 **  any bytes at all are a roster too.
@@ -14,7 +14,7 @@
 
 #define MOST_PACKED (MOST_BYTES - 64)     /* bytes behind a file are lent too */
 
-enum kind { STATES, FILES, SECTIONS, ROSTERS, KINDS };
+enum kind { STATES, FILES, SECTIONS, ROSTERS, ROWS, KINDS };
 
 void pack_state(struct file *input, const uint64_t *words);
 void unpack_state(const struct file *input, uint64_t *words);
