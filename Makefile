@@ -14,7 +14,7 @@
 
 X86 = sh tests/machine.sh
 STRICT = -std=c99 -Wall -Wextra -pedantic -Werror -O2 -ffp-contract=off
-TESTS = $(COMPARISONS) build/tests/second/selftest $(GUIDED) build/tests/root build/tests/cases build/tests/case_files
+TESTS = $(COMPARISONS) build/tests/second/selftest $(GUIDED) build/tests/root build/tests/cases build/tests/case_files build/tests/case_rows
 
 # The library against the second program: states and partials, then files, then the summary, then another station's rows.
 COMPARISONS = build/tests/propagate build/tests/files build/tests/summary build/tests/rows
@@ -215,7 +215,7 @@ build/tests/kelubashi_faulty: $(COMMAND) build/tests/command_faults.o machine li
 	@$(X86) compile $(STRICT) $(WRAPPED) -o $@ $(COMMAND) build/tests/command_faults.o build/libkelubashi.a
 
 build/host/example: build/host/kelubashi_selfcheck.o
-build/tests/case_files: build/tests/expected.o
+build/tests/case_files build/tests/case_rows: build/tests/expected.o
 build/tests/facts: STRICT += -pthread
 ASK_STATES = $(patsubst %,build/tests/%.o,drive orbits aimed aimed_search aimed_revolutions inputs ask_state)
 ASK_FILES = $(patsubst %,build/tests/%.o,drive orbits sections damaged lent ask_file)

@@ -12,6 +12,8 @@
 #include <stdio.h>
 #include <stdlib.h>
 
+const char *const test_name = "case_files";
+
 #define ONE UINT64_C(0x3FF0000000000000)
 #define MINUS_ZERO UINT64_C(0x8000000000000000)
 #define DRIFT UINT64_C(0x1A70000000000000)     /* 2^-600 */

@@ -6,11 +6,14 @@
 #include <string.h>
 
 #define EDGE 8     /* bytes before and behind a room */
+#define BEYOND 3     /* words of a run beyond the verdicts */
+#define MOST_VERDICTS (KELUBASHI_MOST_CHECK_ROWS + BEYOND)
 
 /* What a call is lent, with a word or some bytes on either side. */
 struct memory {
     uint64_t answer[1 + KELUBASHI_READ_ANSWER + 1];
     uint8_t room[EDGE + MOST_ROOM + EDGE];
+    uint64_t verdicts[1 + MOST_VERDICTS + 1];
 };
 
 struct file file;
@@ -18,31 +21,40 @@ struct runs runs;
 unsigned calls;
 
 static struct file results;
-static struct memory lent, right;     /* filled alike; what has to be written is then put to the second */
+static struct memory lent, right, filled;     /* the first two are filled like the third; what has to be written is then put to the second */
 
 /* ---- what is lent, and what has to be there afterwards ---- */
+
+static void fill_words(uint64_t *words, size_t count)
+{
+    size_t i;
+
+    for (i = 0; i < count; i++)
+        words[i] = UINT64_C(0x5EED5EED5EED5EED) + i;
+}
 
 static void fill(struct memory *memory)
 {
     size_t i;
 
-    for (i = 0; i < sizeof memory->answer / sizeof memory->answer[0]; i++)
-        memory->answer[i] = UINT64_C(0x5EED5EED5EED5EED) + i;
+    fill_words(memory->answer, sizeof memory->answer / sizeof memory->answer[0]);
+    fill_words(memory->verdicts, sizeof memory->verdicts / sizeof memory->verdicts[0]);
     for (i = 0; i < sizeof memory->room; i++)
         memory->room[i] = (uint8_t)(0xA5 + i % 251);
 }
 
 static void lend(void)
 {
-    fill(&lent);
-    fill(&right);
-    calls++;
+    if (calls++ == 0)
+        fill(&filled);
+    lent = filled;
+    right = filled;
 }
 
 /* Ends the test with what differs. */
 static void differs(const char *name, const char *call, const char *what, long place, uint64_t value, uint64_t expected)
 {
-    printf("case_files: %s: %s: %s %ld: %" PRIX64 ", expected %" PRIX64 " (hex)\n", name, call, what, place, value,
+    printf("%s: %s: %s: %s %ld: %" PRIX64 ", expected %" PRIX64 " (hex)\n", test_name, name, call, what, place, value,
            expected);
     exit(EXIT_FAILURE);
 }
@@ -54,12 +66,17 @@ static void expect(const char *name, const char *call, uint64_t status, uint64_t
 
     if (status != expected)
         differs(name, call, "status, place", 0, status, expected);
+    if (memcmp(&lent, &right, sizeof lent) == 0)
+        return;
     for (i = -1; i <= KELUBASHI_READ_ANSWER; i++)
         if (lent.answer[1 + i] != right.answer[1 + i])
             differs(name, call, "answer, word", i, lent.answer[1 + i], right.answer[1 + i]);
     for (i = -EDGE; i < MOST_ROOM + EDGE; i++)
         if (lent.room[EDGE + i] != right.room[EDGE + i])
             differs(name, call, "room, byte", i, lent.room[EDGE + i], right.room[EDGE + i]);
+    for (i = -1; i <= MOST_VERDICTS; i++)
+        if (lent.verdicts[1 + i] != right.verdicts[1 + i])
+            differs(name, call, "verdict of row", i, lent.verdicts[1 + i], right.verdicts[1 + i]);
 }
 
 /* ---- files of words ---- */
@@ -157,6 +174,12 @@ static uint64_t write_results(size_t size, size_t n)
     return kelubashi1_results(file_bytes(), file.length, room_of(size), size, answer_of(n), n);
 }
 
+static uint64_t check_rows(size_t k, size_t n)
+{
+    lend();
+    return kelubashi1_check(file_bytes(), file.length, k ? lent.verdicts + 1 : NULL, k, answer_of(n), n);
+}
+
 /* ---- what is expected ---- */
 
 void reads(const char *name, const uint64_t *answer)
@@ -214,6 +237,34 @@ void writes_results(const char *name, const uint64_t *words, size_t count)
     writes_results_in(name, results.length + TAIL);
 }
 
+/* With a run of this count: the number and the place, or the rows and, where the number is 0, their verdicts. */
+static void checks(const char *name, size_t k, uint64_t number, uint64_t place, const uint64_t *verdicts)
+{
+    uint64_t status = check_rows(k, KELUBASHI_CHECK_ANSWER);
+
+    right.answer[1 + KELUBASHI_CHECK_REFUSAL] = number;
+    right.answer[1 + KELUBASHI_CHECK_PLACE] = place;
+    if (number == 0)
+        memcpy(right.verdicts + 1, verdicts, (size_t)place * sizeof *verdicts);
+    expect(name, "check", status, number);
+}
+
+void judges(const char *name, const uint64_t *verdicts, size_t rows)
+{
+    if (rows > 0) {
+        checks(name, 0, 26, rows, NULL);
+        checks(name, rows - 1, 26, rows, NULL);
+    }
+    checks(name, rows, 0, rows, verdicts);
+    checks(name, rows + BEYOND, 0, rows, verdicts);
+}
+
+void refuses_rows(const char *name, uint64_t number, uint64_t place)
+{
+    checks(name, 0, number, place, NULL);
+    checks(name, MOST_VERDICTS, number, place, NULL);
+}
+
 void refuses_count(const char *name, size_t n)
 {
     if (n != KELUBASHI_READ_ANSWER)
@@ -225,5 +276,9 @@ void refuses_count(const char *name, size_t n)
     if (n != KELUBASHI_RESULTS_ANSWER) {
         expect(name, "results", write_results(MOST_ROOM, n), 60);
         expect(name, "results in no room", write_results(0, n), 60);
+    }
+    if (n != KELUBASHI_CHECK_ANSWER) {
+        expect(name, "check", check_rows(MOST_VERDICTS, n), 60);
+        expect(name, "check in no run", check_rows(0, n), 60);
     }
 }

@@ -1,5 +1,5 @@
 /*
-**  What the three file calls are asked with, and what is expected of them: the status, the answer, and
+**  What the calls that take files are asked with, and what is expected of them: the status, the answer, and
 **  every byte that was lent, also where nothing is to be written. A call that gives anything else
 **  ends the test and says where.
 */
@@ -23,6 +23,9 @@ struct runs {
     uint64_t requests[KELUBASHI_REQUEST * (KELUBASHI_MOST_REQUESTS + 1)];
     size_t centre_words, state_words, request_words;
 };
+
+/* The test's own name, which it has to give. */
+extern const char *const test_name;
 
 /* What the calls are asked with; and how many there were. */
 extern struct file file;
@@ -50,6 +53,12 @@ void writes_results(const char *name, const uint64_t *words, size_t count);
 
 /* The file's results do not fit in a room of this size, which keeps its bytes. */
 void needs_room(const char *name, size_t size, uint64_t length);
+
+/* The file is a file of rows with these verdicts: not judged in a run a word short or in none, judged in others, whose tails stay. */
+void judges(const char *name, const uint64_t *verdicts, size_t rows);
+
+/* It is refused, whatever run is lent, which stays. */
+void refuses_rows(const char *name, uint64_t number, uint64_t place);
 
 /* An answer run of this count, where it is another than the call's, is 60, and nothing is written. */
 void refuses_count(const char *name, size_t n);
