@@ -216,6 +216,7 @@ build/tests/kelubashi_faulty: $(COMMAND) build/tests/command_faults.o machine li
 
 build/host/example: build/host/kelubashi_selfcheck.o
 build/tests/case_files build/tests/case_rows: build/tests/expected.o
+build/tests/facts build/tests/stack: build/tests/one_row.o
 build/tests/facts: STRICT += -pthread
 ASK_STATES = $(patsubst %,build/tests/%.o,drive orbits aimed aimed_search aimed_revolutions inputs ask_state)
 ASK_FILES = $(patsubst %,build/tests/%.o,drive orbits sections damaged lent ask_file)

@@ -5,6 +5,7 @@
 */
 #define _XOPEN_SOURCE 700
 #include "kelubashi.h"
+#include "one_row.h"
 
 #include <fenv.h>
 #include <pthread.h>
@@ -25,8 +26,8 @@ static const double GIVEN[ORBITS][8] = {
 
 struct results {
     uint64_t answer[KELUBASHI_ANSWER], run[KELUBASHI_PARTIALS], read[KELUBASHI_READ_ANSWER];
-    uint64_t root, written[2], answered[2], changed[6], list[KELUBASHI_ENTRY];
-    uint8_t file[200], results[200];
+    uint64_t root, written[2], answered[2], checked[2], verdict, changed[6], list[KELUBASHI_ENTRY];
+    uint8_t file[200], results[200], rows[ONE_ROW];
 };
 
 static void fail(const char *what)
@@ -35,7 +36,7 @@ static void fail(const char *what)
     exit(EXIT_FAILURE);
 }
 
-/* All nine calls on one orbit; every byte that they leave. */
+/* All ten calls on one orbit; every byte that they leave. */
 static void ask(const double *g, struct results *r)
 {
     uint64_t w[8], state[KELUBASHI_STATE] = { 0 }, request[KELUBASHI_REQUEST] = { 0, 0 }, refusals;
@@ -55,6 +56,8 @@ static void ask(const double *g, struct results *r)
     refusals += kelubashi1_write(w, 1, state, KELUBASHI_STATE, request, KELUBASHI_REQUEST, r->file, sizeof r->file, r->written, 2);
     refusals += kelubashi1_read(r->file, 120, r->read, KELUBASHI_READ_ANSWER);
     refusals += kelubashi1_results(r->file, 120, r->results, sizeof r->results, r->answered, 2);
+    one_row(w, r->answer, r->rows);
+    refusals += kelubashi1_check(r->rows, sizeof r->rows, &r->verdict, 1, r->checked, 2);
     refusals += kelubashi1_append(state, KELUBASHI_STATE, states, KELUBASHI_STATE_RUN, 1, 1, r->list, KELUBASHI_ENTRY, r->changed, 2);
     refusals += kelubashi1_withdraw(0, states, KELUBASHI_STATE_RUN, 2, 1, r->list, KELUBASHI_ENTRY, r->changed + 2, 2);
     refusals += kelubashi1_summary(states, KELUBASHI_STATE_RUN, 1, 1, r->list, KELUBASHI_ENTRY, r->changed + 4, 2);

@@ -8,6 +8,7 @@
 */
 #define _XOPEN_SOURCE 600
 #include "kelubashi.h"
+#include "one_row.h"
 
 #include <stdio.h>
 #include <stdlib.h>
@@ -21,10 +22,16 @@ static uint64_t answer[KELUBASHI_ANSWER], run[KELUBASHI_PARTIALS], status;
 static uint8_t file[KELUBASHI_MOST_FILE], room[KELUBASHI_MOST_RESULTS];
 static size_t length;
 static uint64_t states[KELUBASHI_STATE_RUN], list[KELUBASHI_ENTRY];
+static uint8_t row[ONE_ROW];
+static uint64_t verdict;
 
-/* The low Earth orbit of the README for 600 s, a hyperbola for a day, and a figure that is refused. */
+/*
+**  The low Earth orbit of the README for 600 s and for 960 s, a hyperbola for a day, and a figure that is refused. Their anomalies are
+**  exact, a past end and a short end, so that a check looks in, out or at neither neighbour.
+*/
 static const double GIVEN[][8] = {
     { 398600.4418, 1131.340, -2282.343, 6672.423, -5.64305, 4.30333, 2.42879, 600 },
+    { 398600.4418, 1131.340, -2282.343, 6672.423, -5.64305, 4.30333, 2.42879, 960 },
     { 398600.4418, -5831.500140, -3066.484874, -1089.857985, 5.376460097, -8.440215347, -5.019952307, 86400 },
     { 398600.4418, 0, 0, 0, 0, 0, 0, 600 }
 };
@@ -71,6 +78,23 @@ static void write_file(void)
 static void results(void)
 {
     status = kelubashi1_results(file, length, room, sizeof room, answer, KELUBASHI_RESULTS_ANSWER);
+}
+
+/* The row that is checked: the library's own, so that all of it is looked at. */
+static void put_row(void)
+{
+    uint64_t words[8];
+    int i;
+
+    for (i = 0; i < 8; i++)
+        words[i] = WORD(i);
+    propagate();
+    one_row(words, answer, row);
+}
+
+static void check(void)
+{
+    status = kelubashi1_check(row, sizeof row, &verdict, 1, answer, KELUBASHI_CHECK_ANSWER);
 }
 
 /* 400 states of one centre, one more, and one fewer. */
@@ -121,6 +145,7 @@ static void tell(const char *name, void (*call)(void))
 
         given = GIVEN[i];
         needed(write_file);     /* the element file that is read */
+        put_row();
         here = needed(call);
         if (here > most)
             most = here;
@@ -136,6 +161,7 @@ int main(void)
     tell("kelubashi1_read", read_file);
     tell("kelubashi1_write", write_file);
     tell("kelubashi1_results", results);
+    tell("kelubashi1_check", check);
     tell("kelubashi1_summary", summary);
     tell("kelubashi1_append", append);
     tell("kelubashi1_withdraw", withdraw);
