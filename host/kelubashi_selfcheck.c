@@ -196,8 +196,15 @@ static const struct orbit {
         0, W(0000100000000000), 0, W(3FF0000000000000) },
       { 0, 21, W(4008000000000000), W(4010000000000000), W(4028000000000000), 0, W(0000100000000000), 0,
         W(8000000000000001), W(8000000000000001), W(8000000000000002),
-        W(8000000000000001), W(8000000000000001), W(8000000000000002), W(3FB3B13B13B13B14) } }
+        W(8000000000000001), W(8000000000000001), W(8000000000000002), W(3FB3B13B13B13B14) } },
+
+    /* at rest at x = 1.5 without a force, for 2^-1074 s: at +0 s/km the time is as much short as it is past at 2^-1074 s/km */
+    { "the tie", { 0, W(3FF8000000000000), 0, 0, 0, 0, 0, 1 },
+      { 0, 3, W(3FF8000000000000), 0, 0, 0, 0, 0, MINUS_ZERO, MINUS_ZERO, MINUS_ZERO, MINUS_ZERO, MINUS_ZERO, MINUS_ZERO, 0 } }
 };
+
+/* Their numbers, where another case takes one up. */
+enum { P7 = 1, P10 = 4, P11 = 5, LOW = 7, NEARER = 8, REVOLUTIONS = 9, SUBNORMAL = 10, TIE = 11 };
 
 /* The first word of a run that is not the right one, by its name; the first so many are whole numbers. */
 static const char *astray(const char *name, const char *const *names, const uint64_t *words, const uint64_t *right,
@@ -235,7 +242,7 @@ static const char *orbit(const struct orbit *at)
     return astray(at->name, NAMES, answer, at->right, KELUBASHI_ANSWER, KELUBASHI_X);
 }
 
-static const struct orbit *const LOW_ORBIT = &ORBITS[7];
+static const struct orbit *const LOW_ORBIT = &ORBITS[LOW];
 
 /* ---- the low Earth orbit with NaNs from one of the eight on: that one is told ---- */
 
@@ -412,6 +419,95 @@ static const char *files(void)
     return results("the results of P10's file, a byte short", FILE_BYTES - 1, REFUSED, REFUSED_WORDS);
 }
 
+/* ---- rows of those orbits, as another station would send them, and such with one bit changed ---- */
+
+static const struct checked {
+    const char *name;
+    int orbit;              /* of ORBITS */
+    int word;               /* of the row */
+    uint64_t bits;          /* of that word that are changed */
+    uint64_t verdict;
+} CHECKED[] = {
+    { "P10's row", P10, 0, 0, 1 },
+    { "P10's row with another bit of psi", P10, KELUBASHI_CHECK_PSI, 1, 0 },
+    { "P10's row with another bit of x", P10, KELUBASHI_CHECK_X, 1, 0 },
+    { "P10's row with +0 for -0", P10, KELUBASHI_CHECK_ROW - 1, MINUS_ZERO, 0 },
+    { "P11's row", P11, 0, 0, 1 },
+    { "P11's row with P10's psi", P11, KELUBASHI_CHECK_PSI, MINUS_ZERO, 0 },
+    { "P7's row", P7, 0, 0, 0 },
+    { "the tie's row", TIE, 0, 0, 1 },
+    { "the tie's row with the past end", TIE, KELUBASHI_CHECK_PSI, 1, 0 },
+    { "the low Earth orbit's row", LOW, 0, 0, 1 },
+    { "the low Earth orbit's row with another bit of tau", LOW, 7, 1, 0 },
+    { "the row of the nearer end", NEARER, 0, 0, 1 },
+    { "the row of whole revolutions", REVOLUTIONS, 0, 0, 1 },
+    { "the subnormal orbit's row", SUBNORMAL, 0, 0, 1 }
+};
+
+enum { CHECKED_ROWS = sizeof CHECKED / sizeof CHECKED[0], CHECKED_BYTES = 8 + 8 * KELUBASHI_CHECK_ROW * CHECKED_ROWS };
+
+static uint8_t rows_file[CHECKED_BYTES];
+
+static void put_row(const struct checked *at, uint8_t *bytes)
+{
+    const struct orbit *of = &ORBITS[at->orbit];
+    uint64_t row[KELUBASHI_CHECK_ROW];
+
+    memcpy(row + KELUBASHI_CHECK_MU, of->given, sizeof of->given);
+    row[KELUBASHI_CHECK_PSI] = of->right[KELUBASHI_PSI];
+    memcpy(row + KELUBASHI_CHECK_X, of->right + KELUBASHI_X, 9 * sizeof row[0]);
+    row[at->word] ^= at->bits;
+    put_bytes(row, KELUBASHI_CHECK_ROW, bytes);
+}
+
+static const char *const CHECK_NAMES[KELUBASHI_CHECK_ANSWER] = { "the refusal", "the count of rows, or the place," };
+
+/* The verdicts of so many rows, and behind them the words that were lent. */
+static const char *verdicts_astray(const char *name, const uint64_t *verdicts, int rows)
+{
+    int i;
+
+    for (i = 0; i < rows; i++)
+        if (verdicts[i] != CHECKED[i].verdict)
+            return astray_number(CHECKED[i].name, "the verdict", verdicts[i], CHECKED[i].verdict);
+    for (; i <= CHECKED_ROWS; i++)
+        if (verdicts[i] != LENT)
+            return astray_word(name, "a word that is no verdict", verdicts[i], LENT);
+    return NULL;
+}
+
+static const char *checking(const char *name, size_t length, size_t k, const uint64_t *right)
+{
+    uint64_t verdicts[CHECKED_ROWS + 1], answer[KELUBASHI_CHECK_ANSWER], status;
+    const char *wrong;
+
+    lend(verdicts, CHECKED_ROWS + 1);
+    lend(answer, KELUBASHI_CHECK_ANSWER);
+    status = kelubashi1_check(rows_file, length, verdicts, k, answer, KELUBASHI_CHECK_ANSWER);
+    if (status != right[0])
+        return astray_number(name, "the status", status, right[0]);
+    wrong = astray(name, CHECK_NAMES, answer, right, KELUBASHI_CHECK_ANSWER, KELUBASHI_CHECK_ANSWER);
+    return wrong != NULL ? wrong : verdicts_astray(name, verdicts, status == 0 ? CHECKED_ROWS : 0);
+}
+
+static const char *rows(void)
+{
+    static const uint64_t JUDGED[KELUBASHI_CHECK_ANSWER] = { 0, CHECKED_ROWS };
+    static const uint64_t SHORT[KELUBASHI_CHECK_ANSWER] = { 21, CHECKED_BYTES - 8 };
+    static const uint64_t NO_ROOM[KELUBASHI_CHECK_ANSWER] = { 26, CHECKED_ROWS };
+    const uint64_t count = CHECKED_ROWS;
+    const char *wrong;
+    int i;
+
+    put_bytes(&count, 1, rows_file);
+    for (i = 0; i < CHECKED_ROWS; i++)
+        put_row(&CHECKED[i], rows_file + 8 + 8 * KELUBASHI_CHECK_ROW * i);
+    if ((wrong = checking("checking rows", CHECKED_BYTES, CHECKED_ROWS + 1, JUDGED)) != NULL ||
+        (wrong = checking("checking rows, a byte short", CHECKED_BYTES - 1, CHECKED_ROWS, SHORT)) != NULL)
+        return wrong;
+    return checking("checking rows, with a run a word short", CHECKED_BYTES, CHECKED_ROWS - 1, NO_ROOM);
+}
+
 /* ---- a list kept beside the states of two centres: appended, refused, withdrawn, and worked out anew ---- */
 
 enum { CENTRES = 2, LISTED = CENTRES * KELUBASHI_ENTRY, LOOKED_AT = 4 };    /* records that are looked at */
@@ -545,5 +641,7 @@ const char *kelubashi_selfcheck(void)
         wrong = partials(KELUBASHI_PARTIALS - 1, 1);
     if (wrong == NULL)
         wrong = files();
+    if (wrong == NULL)
+        wrong = rows();
     return wrong != NULL ? wrong : changes();
 }

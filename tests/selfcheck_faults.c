@@ -21,6 +21,8 @@ enum fault {
     READ_REFUSES_ALL, READ_BY_WORDS, READ_STATES_FOR_CENTRES, READ_TAKES_SHORT_FILES, READ_PLACE_LOST,
     WRITE_HIGHEST_FIRST, WRITE_NOTHING, WRITE_BEYOND, WRITE_IN_ANY_ROOM, WRITE_LENGTH_IN_WORDS,
     RESULTS_OF_ZEROS, RESULTS_WITHOUT_COUNT, RESULTS_REFUSE, RESULTS_TAKE_SHORT_FILES, RESULTS_LENGTH_LOST,
+    CHECK_ACCEPTS_ALL, CHECK_ACCEPTS_NONE, CHECK_UNWRITTEN, CHECK_BEYOND, CHECK_TAKES_SHORT_FILES, CHECK_IN_ANY_RUN, CHECK_ROWS_LOST,
+    CHECK_ANY_PSI, CHECK_ANY_FIGURES, CHECK_NUMBERS, CHECK_TURNED, CHECK_KEEPS_REVOLUTIONS, CHECK_DROPS_SUBNORMALS,
     APPEND_UNWRITTEN, APPEND_SHOWS_MINUS_ZERO, APPEND_COUNTS_NANS, APPEND_LEAVES_OUT_INFINITIES, APPEND_ALL_ENTRIES, APPEND_COUNT_LOST, APPEND_ANY_CENTRE,
     WITHDRAW_MOVES_UP, WITHDRAW_CLEARS, WITHDRAW_OLD_ENTRY, WITHDRAW_NEVER_REFUSES, SUMMARY_UNWRITTEN, SUMMARY_ANY_RUN, SUMMARY_ANY_LIST, SUMMARY_OF_ZEROS
 };
@@ -75,6 +77,19 @@ static const struct telling {
     { RESULTS_REFUSE, DOES_NOT "the results of P10's file, a byte short: the status is 21 and not 0: " },
     { RESULTS_TAKE_SHORT_FILES, DOES_NOT "the results of P10's file, a byte short: the length is 104 and not 24: " },
     { RESULTS_LENGTH_LOST, DOES_NOT "the results of P10's file: the length is 0 and not 104: " },
+    { CHECK_ACCEPTS_ALL, DOES_NOT "P10's row with another bit of psi: the verdict is 1 and not 0: " },
+    { CHECK_ACCEPTS_NONE, DOES_NOT "P10's row: the verdict is 0 and not 1: " },
+    { CHECK_UNWRITTEN, DOES_NOT "P10's row: the verdict is 6840227782638526189 and not 1: " },
+    { CHECK_BEYOND, DOES_NOT "checking rows: a word that is no verdict is 0000000000000000 and not 5EED5EED5EED5EED: " },
+    { CHECK_TAKES_SHORT_FILES, DOES_NOT "checking rows, a byte short: the status is 0 and not 21: " },
+    { CHECK_IN_ANY_RUN, DOES_NOT "checking rows, with a run a word short: the status is 0 and not 26: " },
+    { CHECK_ROWS_LOST, DOES_NOT "checking rows: the count of rows, or the place, is 0 and not 14: " },
+    { CHECK_ANY_PSI, DOES_NOT "P10's row with another bit of psi: the verdict is 1 and not 0: " },
+    { CHECK_ANY_FIGURES, DOES_NOT "P10's row with another bit of x: the verdict is 1 and not 0: " },
+    { CHECK_NUMBERS, DOES_NOT "P10's row with +0 for -0: the verdict is 1 and not 0: " },
+    { CHECK_TURNED, DOES_NOT "P11's row with P10's psi: the verdict is 1 and not 0: " },
+    { CHECK_KEEPS_REVOLUTIONS, DOES_NOT "the row of whole revolutions: the verdict is 0 and not 1: " },
+    { CHECK_DROPS_SUBNORMALS, DOES_NOT "the subnormal orbit's row: the verdict is 0 and not 1: " },
     { APPEND_UNWRITTEN, DOES_NOT "a state at -0 s appended: a word of the states is 5EED5EED5EED5EED and not 0000000000000000: " },
     { APPEND_SHOWS_MINUS_ZERO, DOES_NOT "a state at -0 s appended: its earliest epoch is 8000000000000000 and not 0000000000000000: " },
     { APPEND_COUNTS_NANS, DOES_NOT "a state at a NaN appended: the states of centre 1 is 0000000000000001 and not 0000000000000000: " },
@@ -294,6 +309,74 @@ uint64_t kelubashi1_results(const uint8_t *file, size_t length, uint8_t *room, s
     if (fault == RESULTS_LENGTH_LOST)
         answer[KELUBASHI_RESULTS_LENGTH] = 0;
     return fault == RESULTS_REFUSE && length < 120 ? 21 : status;
+}
+
+/* The word of a row, in the file of rows. */
+static uint64_t row_word(const uint8_t *row, size_t word)
+{
+    uint64_t bits = 0;
+    size_t i;
+
+    for (i = 8; i > 0; i--)
+        bits = bits << 8 | row[8 * word + i - 1];
+    return bits;
+}
+
+/* Whether figures are those of the answer, by their words or, with the fault, as numbers. */
+static int same_figures(const uint8_t *row, const uint64_t *answer)
+{
+    size_t i;
+
+    for (i = 0; i < 9; i++) {
+        uint64_t given = row_word(row, KELUBASHI_CHECK_X + i), right = answer[KELUBASHI_X + i];
+
+        if (fault == CHECK_NUMBERS ? kelubashi_figure(given) != kelubashi_figure(right) : given != right)
+            return 0;
+    }
+    return 1;
+}
+
+/* A row with the fault, of a station that searches again and looks at less than all of the row. */
+static uint64_t spoilt_verdict(const uint8_t *row, uint64_t verdict)
+{
+    uint64_t w[8], answer[KELUBASHI_ANSWER], psi = row_word(row, KELUBASHI_CHECK_PSI);
+    size_t i;
+
+    for (i = 0; i < 8; i++)
+        w[i] = row_word(row, i);
+    if (fault == CHECK_DROPS_SUBNORMALS)
+        return is_subnormal(w[0]) ? 0 : verdict;
+    if (second_propagate(w[0], w[1], w[2], w[3], w[4], w[5], w[6], w[7], answer, KELUBASHI_ANSWER) != 0)
+        return verdict;
+    switch (fault) {
+    case CHECK_ANY_PSI:
+        return same_figures(row, answer) ? 1 : verdict;
+    case CHECK_ANY_FIGURES:
+        return psi == answer[KELUBASHI_PSI] ? 1 : verdict;
+    case CHECK_NUMBERS:
+        return psi == answer[KELUBASHI_PSI] && same_figures(row, answer) ? 1 : verdict;
+    case CHECK_TURNED:
+        return psi << 1 == answer[KELUBASHI_PSI] << 1 && same_figures(row, answer) ? 1 : verdict;
+    case CHECK_KEEPS_REVOLUTIONS:
+        return psi == UINT64_C(0xBFC4661E9275651D) ? 0 : verdict;
+    default:
+        return fault == CHECK_ACCEPTS_ALL ? 1 : fault == CHECK_ACCEPTS_NONE ? 0 : verdict;
+    }
+}
+
+uint64_t kelubashi1_check(const uint8_t *file, size_t length, uint64_t *verdicts, size_t k, uint64_t *answer, size_t n)
+{
+    uint64_t right[32];
+    size_t i, whole = length + (fault == CHECK_TAKES_SHORT_FILES ? (8 - length % 8) % 8 : 0);
+    uint64_t status = second_check(file, whole, right, fault == CHECK_IN_ANY_RUN ? 32 : k, answer, n);
+
+    for (i = 0; status == 0 && fault != CHECK_UNWRITTEN && i < answer[KELUBASHI_CHECK_ROWS] && i < k; i++)
+        verdicts[i] = spoilt_verdict(file + 8 + 8 * KELUBASHI_CHECK_ROW * i, right[i]);
+    if (status == 0 && fault == CHECK_BEYOND)
+        memset(verdicts + i, 0, (k - i) * sizeof *verdicts);
+    if (fault == CHECK_ROWS_LOST)
+        answer[KELUBASHI_CHECK_ROWS] = 0;
+    return status;
 }
 
 /* The whole list anew, whatever was to be left of it. */
