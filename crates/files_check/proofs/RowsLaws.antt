@@ -17,7 +17,7 @@ use Rattle.files_sections.specs.declared.checks.Rule.the-variants.{Any}
 use Rattle.files_sections.specs.Checks.{need, _⟫_, walk, countCheck, countedCheck, endCheck, rulingOf}
 use Rattle.files_sections.proofs.CheckLaws.{sound-both, sound-need}
 use Rattle.states_check.proofs.RowLaws.{accepts-own}
-use Rattle.files_check.specs.RowsFile.{mostRows, rowWords, countPlace, rowPlace, rowsIn, rowsCheck, fieldsAt, givenAt, anomalyAt, nineAt, verdictOf, verdictAt, verdictsOf, judgedOf, judgedBy, verdictsAfter, verdictsBy}
+use Rattle.files_check.specs.RowsFile.{mostRows, rowWords, countPlace, rowPlace, rowsIn, rowsCheck, fieldsAt, givenAt, proposedAt, nineAt, verdictOf, verdictAt, verdictsOf, judgedOf, judgedBy, verdictsAfter, verdictsBy}
 use Rattle.files_check.specs.RowsPromise.{Row, wordsIn, IsRow, AreRows, allWords, fileOf, verdictOn, JudgedRows, JudgesRows, OurRowsPass}
 
 pub our-rows-pass : OurRowsPass
@@ -105,7 +105,7 @@ module _ (file : List ℕ) (place : ℕ) (r : Row) (is : IsRow r) (rest : List �
   given-is : givenAt file place ≡ r .given
   given-is = fields-are file place 0 8 (omega (arith, enough)) ∙ ap (take 8) opened ∙ take-at (r .given) behind 8 (is .eight-given)
 
-  anomaly-is : anomalyAt file place ≡ r .anomaly
+  anomaly-is : proposedAt file place ≡ r .anomaly
   anomaly-is = sym (word-of-words file place 8) ∙ ap (λ (ws : List ℕ). getD ws 8 0) opened ∙ getD-at (r .given) (r .anomaly) (r .nine ++ rest) 0 8 (is .eight-given)
 
   nine-is : nineAt file place ≡ r .nine
@@ -115,7 +115,7 @@ module _ (file : List ℕ) (place : ℕ) (r : Row) (is : IsRow r) (rest : List �
       ∙ ap (take 9) (drop-at (r .given ++ (r .anomaly ∷ [])) (r .nine ++ rest) 9 (length-append (r .given) (r .anomaly ∷ []) ∙ omega (arith, is .eight-given)))
       ∙ take-at (r .nine) rest 9 (is .nine-figures)
 
-  judged-so : verdictOf (givenAt file place) (anomalyAt file place) (nineAt file place) ≡ verdictOn r
+  judged-so : verdictOf (givenAt file place) (proposedAt file place) (nineAt file place) ≡ verdictOn r
   judged-so = λ i. verdictOf (given-is i) (anomaly-is i) (nine-is i)
 
 -- The verdicts of rows that stand one after another in a file, the first as row k.

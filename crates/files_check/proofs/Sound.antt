@@ -1,14 +1,43 @@
 -- What is known of a sound file of rows, so that nobody opens its check.
 use Prim.Native.Nat.{ℕ, _≤_}
-use mathlib.Core.Path.{_≡_}
+use mathlib.Core.Path.{_≡_, refl}
+use mathlib.Core.Bool.{Bool, true, false}
+use mathlib.Core.Logic.{_⊎_, inl, inr}
 use mathlib.Core.List.{List}
-use Rattle.files_sections.specs.declared.checks.Check.the-variants.{Sound}
+use native.Mathlib.Omega.{arith}
+use borrow.Author.Tests.{leb-true}
+use lib.Dec.{leb}
+use lib.ListN.{length}
+use Rattle.bits.specs.Choice.{pick}
+use Rattle.files_sections.specs.declared.checks.Check.{Check}
+use Rattle.files_sections.specs.declared.checks.Check.the-variants.{Sound, Fault}
 use Rattle.files_sections.specs.declared.checks.Rule.the-variants.{Any}
 use Rattle.files_sections.specs.Checks.{countedCheck, endCheck, rulingOf}
-use Rattle.files_sections.proofs.CheckLaws.{both}
-use Rattle.files_sections.proofs.CountedLaws.{count-within}
-use Rattle.files_check.specs.RowsFile.{mostRows, rowWords, countPlace, rowPlace, rowsIn, rowsCheck}
+use Rattle.files_sections.proofs.CheckLaws.{both, needed}
+use Rattle.files_sections.proofs.CountedLaws.{count-within, words-within}
+use Rattle.files_check.specs.RowsFile.{mostRows, rowWords, countPlace, rowPlace, rowsIn, rowsCheck, judgedBy, judgedOf, withVerdicts, verdictsBy, verdictsAfter}
+use Rattle.files_check.specs.RowsPromise.{SoundFile, SoundSo, KeptOrJudged}
+
+pub sound-so : SoundSo
+unfolding rowsCheck
+sound-so file e =
+    let b = both _ _ e in
+    let within = words-within file countPlace mostRows rowWords (rulingOf Any) (b .0) in
+    let end = leb-true (length file) (rowPlace (rowsIn file)) (needed _ _ _ (b .1)) in
+    record { few = count-within file countPlace mostRows rowWords (rulingOf Any) (b .0); size = omega (arith, within, end) }
 
 pub few-rows : (file : List ℕ) → rowsCheck file ≡ Sound → rowsIn file ≤ mostRows
-unfolding rowsCheck
-few-rows file e = count-within file countPlace mostRows rowWords (rulingOf Any) (both _ _ e .0)
+few-rows file e = sound-so file e .few
+
+-- A refused file, or one whose verdicts have no room, leaves the run as it was.
+by-check : (file run : List ℕ) (rows : ℕ) (c : Check) → (judgedBy c rows (length run) .number ≡ 0) ⊎ (verdictsBy c file rows run ≡ run)
+by-check file run rows Sound = by-room (leb rows (length run))
+  where
+    by-room : (b : Bool) → (_≡_ {A = ℕ} (pick b 0 26) 0) ⊎ (pick b (withVerdicts file rows run) run ≡ run)
+    by-room true = inl refl
+    by-room false = inr refl
+by-check file run rows (Fault number place) = inr refl
+
+pub kept-or-judged : KeptOrJudged
+unfolding judgedOf verdictsAfter
+kept-or-judged file run = by-check file run (rowsIn file) (rowsCheck file)

@@ -13,7 +13,7 @@ use Rattle.search_points.specs.Residual.{timeErrorOf, radiusOf}
 use Rattle.search_points.specs.Trial.{anomalyAt, sortOf, evaluatedAt, trialAt}
 use Rattle.search_rule.specs.Nearer.{nearerEnd}
 use Rattle.search_check.specs.Passing.{picks, shortPasses, pastPasses, passes}
-use Rattle.search_check.specs.Right.{hasSignOf, isSearched, isRight}
+use Rattle.search_check.specs.Right.{hasSignOf, isRightBeyondZero, isRight}
 use Rattle.states_revolutions.specs.Floor.{floorOf}
 use Rattle.states_revolutions.specs.Revolutions.{revolutionOf, isClosed, isUsable, courseOf, asItIs, withoutN, withoutRevolutions, intervalOf}
 use Rattle.states_arcs.specs.Results.{factorsOf, endStateOf, arcOf, accelerationOf, resultsOf, figuresOf, endedOf}
@@ -125,7 +125,7 @@ after (c ∷ cs) = c .verdict ∷ after cs
 
 -- Each row of the table, in one file, has its verdict.
 pub marked : verdictsAfter (asBytes (length table ∷ rowsOf table)) (before table) ≡ after table
-unfolding verdictsAfter rowsCheck countedCheck countCheck walk words wordsFrom wordAt numberOf bytesOf asBytes verdictsOf verdictOf fieldsAt accepts acceptsAt reachedWordsBy reachedOrbitBy reachedFromBy reachedOverBy reachedFound intervalOf withoutRevolutions withoutN asItIs floorOf courseOf isClosed isUsable revolutionOf ofInt readOf begunOf dot firstStepOf endedOf figuresOf resultsOf accelerationOf arcOf endStateOf factorsOf has firstOf sameWords isRight isSearched hasSignOf passes shortPasses pastPasses picks nearerEnd trialAt evaluatedAt sortOf anomalyAt timeErrorOf radiusOf coefficientsOf sumsOf quotientsOf doublings atReduced c4Of c5Of nested reducedFrom beyondOne rootOf rootWordOf add sub mul div neg lt eq ne ofBits toBits
+unfolding verdictsAfter rowsCheck countedCheck countCheck walk words wordsFrom wordAt numberOf bytesOf asBytes verdictsOf verdictOf fieldsAt accepts acceptsAt reachedWordsBy reachedOrbitBy reachedFromBy reachedOverBy reachedFound intervalOf withoutRevolutions withoutN asItIs floorOf courseOf isClosed isUsable revolutionOf ofInt readOf begunOf dot firstStepOf endedOf figuresOf resultsOf accelerationOf arcOf endStateOf factorsOf has firstOf sameWords isRight isRightBeyondZero hasSignOf passes shortPasses pastPasses picks nearerEnd trialAt evaluatedAt sortOf anomalyAt timeErrorOf radiusOf coefficientsOf sumsOf quotientsOf doublings atReduced c4Of c5Of nested reducedFrom beyondOne rootOf rootWordOf add sub mul div neg lt eq ne ofBits toBits
 marked = refl
 
 -- ---- Files.

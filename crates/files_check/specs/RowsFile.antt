@@ -42,8 +42,8 @@ fieldsAt file place from (suc n) = wordAt file (place + 8 * from) ∷ fieldsAt f
 abbrev pub givenAt : List ℕ → (place : ℕ) → List ℕ
 givenAt file place = fieldsAt file place 0 8
 
-abbrev pub anomalyAt : List ℕ → (place : ℕ) → ℕ
-anomalyAt file place = wordAt file (place + 8 * 8)
+abbrev pub proposedAt : List ℕ → (place : ℕ) → ℕ
+proposedAt file place = wordAt file (place + 8 * 8)
 
 abbrev pub nineAt : List ℕ → (place : ℕ) → List ℕ
 nineAt file place = fieldsAt file place 9 9
@@ -53,7 +53,7 @@ unfoldable pub verdictOf : (given : List ℕ) (anomaly : ℕ) (nine : List ℕ) 
 verdictOf given anomaly nine = pick (accepts given anomaly nine) 1 0
 
 abbrev pub verdictAt : List ℕ → (k : ℕ) → ℕ
-verdictAt file k = verdictOf (givenAt file (rowPlace k)) (anomalyAt file (rowPlace k)) (nineAt file (rowPlace k))
+verdictAt file k = verdictOf (givenAt file (rowPlace k)) (proposedAt file (rowPlace k)) (nineAt file (rowPlace k))
 
 -- Those of the first n rows.
 unfoldable pub verdictsOf : List ℕ → (n : ℕ) → List ℕ

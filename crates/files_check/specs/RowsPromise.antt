@@ -1,7 +1,8 @@
 -- What a file of rows means, said of the rows and not of its bytes: each row has its own verdict, in its own place; and those that we answered ourselves have 1.
 use mathlib.Core.Path.{_≡_}
+use mathlib.Core.Logic.{_⊎_}
 use mathlib.Core.List.{List, [], _∷_, _++_, map}
-use Prim.Native.Nat.{ℕ, _≤_, _^_}
+use Prim.Native.Nat.{ℕ, _+_, _*_, _≤_, _^_}
 use lib.Dec.{leb}
 use lib.ListN.{length, drop}
 use Rattle.bits.specs.Choice.{pick}
@@ -10,7 +11,8 @@ use Rattle.states_revolutions.specs.Revolutions.{intervalOf}
 use Rattle.states.specs.Call.{propagateBy}
 use Rattle.states_check.specs.RowPromise.{anomalyIn, nineIn}
 use Rattle.files_words.specs.Bytes.{asBytes, Below}
-use Rattle.files_check.specs.RowsFile.{mostRows, verdictOf, judgedOf, verdictsAfter}
+use Rattle.files_sections.specs.declared.checks.Check.the-variants.{Sound}
+use Rattle.files_check.specs.RowsFile.{rowsIn, rowsCheck, verdictOf, judgedOf, verdictsAfter}
 
 -- "rows with eight input words, a proposed anomaly and the nine end figures".
 pub record Row : Type 0 where
@@ -47,7 +49,19 @@ pub record JudgedRows (rows : List Row) (run : List ℕ) : Type 0 where
   pub verdicts : length rows ≤ length run → verdictsAfter (fileOf rows) run ≡ map verdictOn rows ++ drop (length rows) run
 
 abbrev pub JudgesRows : Type 0
-JudgesRows = (rows : List Row) → AreRows rows → length rows ≤ mostRows → (run : List ℕ) → JudgedRows rows run
+JudgesRows = (rows : List Row) → AreRows rows → length rows ≤ 400 → (run : List ℕ) → JudgedRows rows run
+
+-- And no other file: one that passes has at most 400 rows, and no byte more or less than they take.
+pub record SoundFile (file : List ℕ) : Type 0 where
+  pub few : rowsIn file ≤ 400
+  pub size : length file ≡ 8 + 144 * rowsIn file
+
+abbrev pub SoundSo : Type 0
+SoundSo = (file : List ℕ) → rowsCheck file ≡ Sound → SoundFile file
+
+-- Demand 1: "lent memory unchanged" under every refusal.
+abbrev pub KeptOrJudged : Type 0
+KeptOrJudged = (file run : List ℕ) → (judgedOf file (length run) .number ≡ 0) ⊎ (verdictsAfter file run ≡ run)
 
 -- "Every row we ourselves answer must be accepted": its input with the anomaly and the nine figures of our answer, whatever formula proposes the inner points.
 abbrev pub ourRow : Proposing → (given : List ℕ) → Row

@@ -200,7 +200,7 @@ pub extern "C" fn kelubashi1_withdraw(
 // A verdict for each row of another station's file, to a lent run, and an answer run of two words.
 #[no_mangle]
 pub extern "C" fn kelubashi1_check(file: &[u8], verdicts: &mut [u64], answer: &mut [u64]) -> u64
-    ensures number { λ r. ⌜ r ≡ returned 2 (now (answer .entry)) (judgedOf (now (file .entry)) (length (now (verdicts .entry))) .number) ⌝ }
+    ensures number { λ r. ⌜ r ≡ returned 2 (now (answer .entry)) (numberIn (judgedWords (judgedOf (now (file .entry)) (length (now (verdicts .entry)))))) ⌝ }
     ensures answer { λ _. ⌜ now (answer .exit) ≡ answerAfter 2 (now (answer .entry)) (judgedWords (judgedOf (now (file .entry)) (length (now (verdicts .entry))))) ⌝ }
     ensures lent { λ _. ⌜ now (verdicts .exit) ≡ lentBehind 2 (now (answer .entry)) (now (verdicts .entry)) (verdictsAfter (now (file .entry)) (now (verdicts .entry))) ⌝ }
 {

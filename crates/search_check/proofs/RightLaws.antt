@@ -29,7 +29,7 @@ use Rattle.search.specs.declared.figures.Finding.{Finding}
 use Rattle.search.specs.declared.figures.Finding.the-variants as finding
 use Rattle.search.proofs.Instance.{promise-by}
 use Rattle.search_check.specs.Passing.{passes}
-use Rattle.search_check.specs.Right.{hasSignOf, placeIn, isSearched, isRight, HasSign, AtRest, OnItsWay, Right, RightSo, RightExactly, RightIs, RightMeans, FoundRight, FindsRight}
+use Rattle.search_check.specs.Right.{hasSignOf, placeIn, isRightBeyondZero, isRight, HasSign, RightAtZero, RightBeyondZero, Right, RightSo, RightExactly, RightIs, RightMeans, FoundRight, FindsRight}
 use Rattle.search_check.proofs.PassLaws.{passes-exactly, one-of}
 use Rattle.search_check.proofs.Sorted.{sorted-readable}
 
@@ -53,23 +53,23 @@ module _ (tau : Seconds) (word : ℕ) where
 
 -- ---- The sentence.
 module _ (i : Initial) (tau : Seconds) (word : ℕ) where
-  searched-only : eq (tau .0) n0 ≡ false → isSearched i tau word ≡ true → OnItsWay i tau word
-  unfolding isSearched
+  searched-only : eq (tau .0) n0 ≡ false → isRightBeyondZero i tau word ≡ true → RightBeyondZero i tau word
+  unfolding isRightBeyondZero
   searched-only e = by (hasSignOf tau word) refl
     where
-      by : (b : Bool) → hasSignOf tau word ≡ b → pick b (passes (trialAt i tau) (placeIn word)) false ≡ true → OnItsWay i tau word
+      by : (b : Bool) → hasSignOf tau word ≡ b → pick b (passes (trialAt i tau) (placeIn word)) false ≡ true → RightBeyondZero i tau word
       by true s h = record { interval = e; sign = sign-only tau word s; anomaly = passes-exactly (trialAt i tau) (placeIn word) .only h }
       by false s h = absurd (true≢false (sym h))
 
-  searched-all : OnItsWay i tau word → isSearched i tau word ≡ true
-  unfolding isSearched
+  searched-all : RightBeyondZero i tau word → isRightBeyondZero i tau word ≡ true
+  unfolding isRightBeyondZero
   searched-all w = rw (sign-all tau word (w .sign)) (passes-exactly (trialAt i tau) (placeIn word) .all (w .anomaly))
 
   only : isRight i tau word ≡ true → Right i tau word
   unfolding isRight
   only = by (eq (tau .0) n0) refl
     where
-      by : (b : Bool) → eq (tau .0) n0 ≡ b → pick b (eqb word 0) (isSearched i tau word) ≡ true → Right i tau word
+      by : (b : Bool) → eq (tau .0) n0 ≡ b → pick b (eqb word 0) (isRightBeyondZero i tau word) ≡ true → Right i tau word
       by true e h = inl (record { no-interval = e; plus-zero = eqb-true word 0 h })
       by false e h = inr (searched-only e h)
 
@@ -150,7 +150,7 @@ place-found : (i : Initial) (tau : Seconds) (p : ℕ) → eq (tau .0) n0 ≡ fal
 place-found i tau p e a =
     let l = anomaly-readable i tau p a in
     let bits = sym (signed-bits tau p l) in
-    let way : OnItsWay i tau (signed tau p) =
+    let way : RightBeyondZero i tau (signed tau p) =
     record { interval = e; sign = signed-sign tau p l; anomaly = subst (IsAnomaly (trialAt i tau)) (sym (signed-place tau p l)) a } in
     record { right = subst (Right i tau) bits (inr way); same = read-back tau p l }
 

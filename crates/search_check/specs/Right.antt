@@ -28,11 +28,11 @@ abbrev pub placeIn : (word : ℕ) → ℕ
 placeIn word = word % 2 ^ 63
 
 -- For a τ that is not zero. A place at or above 2047·2^52 is unreadable, and so does not pass.
-unfoldable pub isSearched : Initial → Seconds → (word : ℕ) → Bool
-isSearched i tau word = pick (hasSignOf tau word) (passes (trialAt i tau) (placeIn word)) false
+unfoldable pub isRightBeyondZero : Initial → Seconds → (word : ℕ) → Bool
+isRightBeyondZero i tau word = pick (hasSignOf tau word) (passes (trialAt i tau) (placeIn word)) false
 
 unfoldable pub isRight : Initial → Seconds → (word : ℕ) → Bool
-isRight i tau word = pick (eq (tau .0) n0) (eqb word 0) (isSearched i tau word)
+isRight i tau word = pick (eq (tau .0) n0) (eqb word 0) (isRightBeyondZero i tau word)
 
 -- ---- The same in the documents' words, without a test.
 
@@ -41,18 +41,18 @@ pub record HasSign (tau : Seconds) (word : ℕ) : Type 0 where
   pub above : lt (tau .0) n0 ≡ false → word < minusZero
 
 -- "+0 for zero τ": of either sign, but the anomaly's sign bit is clear;
-pub record AtRest (tau : Seconds) (word : ℕ) : Type 0 where
+pub record RightAtZero (tau : Seconds) (word : ℕ) : Type 0 where
   pub no-interval : eq (tau .0) n0 ≡ true
   pub plus-zero : word ≡ 0
 
 -- "or otherwise has the sign of τ and is exact, or is the answer T-01 picks from its adjacent pair".
-pub record OnItsWay (i : Initial) (tau : Seconds) (word : ℕ) : Type 0 where
+pub record RightBeyondZero (i : Initial) (tau : Seconds) (word : ℕ) : Type 0 where
   pub interval : eq (tau .0) n0 ≡ false
   pub sign : HasSign tau word
   pub anomaly : IsAnomaly (trialAt i tau) (placeIn word)
 
 abbrev pub Right : Initial → Seconds → (word : ℕ) → Type 0
-Right i tau word = AtRest tau word ⊎ OnItsWay i tau word
+Right i tau word = RightAtZero tau word ⊎ RightBeyondZero i tau word
 
 pub record RightSo (i : Initial) (tau : Seconds) (word : ℕ) : Type 0 where
   pub only : isRight i tau word ≡ true → Right i tau word
@@ -61,7 +61,7 @@ pub record RightSo (i : Initial) (tau : Seconds) (word : ℕ) : Type 0 where
 abbrev pub RightExactly : Type 0
 RightExactly = (i : Initial) (tau : Seconds) (word : ℕ) → RightSo i tau word
 
--- A right anomaly is a finite double; past zero τ it is the ψ of its place, with the sign of τ.
+-- A right anomaly is a finite double; where τ is not zero, it is the ψ of its place, with the sign of τ.
 pub record RightIs (i : Initial) (tau : Seconds) (word : ℕ) : Type 0 where
   pub readable : placeIn word < infinity
   pub at-place : eq (tau .0) n0 ≡ false → record { 0 = ofBits binary64 word } ≡ anomalyAt tau (placeIn word)

@@ -3,7 +3,7 @@ ghost use mathlib.Core.Path.{_≡_};
 ghost use Prim.Native.Nat.{_^_, _<_};
 ghost use Rattle.search_points.specs.Trial.{trialAt};
 ghost use Rattle.search_check.specs.Passing.{picks, shortBeside, pastBeside, shortPasses, pastPasses, passes};
-ghost use Rattle.search_check.specs.Right.{hasSignOf, isSearched, isRight};
+ghost use Rattle.search_check.specs.Right.{hasSignOf, isRightBeyondZero, isRight};
 use bits::words::SIGN;
 use search_points::Initial;
 use search_points::Sort;
@@ -96,9 +96,9 @@ fn has_sign_of(tau: Seconds, word: u64) -> bool
     word < SIGN
 }
 
-// The same of the anomaly of a word, for a tau that is not zero.
-fn is_searched(initial: Initial, tau: Seconds, word: u64) -> bool
-    ensures { λ r. ⌜ r ≡ isSearched initial tau word ⌝ }
+// Whether a word has the sign of tau and its place is an anomaly's, for a tau that is not zero.
+fn is_right_beyond_zero(initial: Initial, tau: Seconds, word: u64) -> bool
+    ensures { λ r. ⌜ r ≡ isRightBeyondZero initial tau word ⌝ }
 {
     if has_sign_of(tau, word) {
         return is_anomaly(initial, tau, word % SIGN);
@@ -113,5 +113,5 @@ pub fn is_right(initial: Initial, tau: Seconds, word: u64) -> bool
     if tau.0 == 0.0 {
         return word == 0;
     }
-    is_searched(initial, tau, word)
+    is_right_beyond_zero(initial, tau, word)
 }

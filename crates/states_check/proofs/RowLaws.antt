@@ -30,20 +30,20 @@ use Rattle.states_start.specs.declared.figures.Read.the-variants as read
 use Rattle.states_start.specs.declared.figures.Begun.{Begun}
 use Rattle.states_start.specs.declared.figures.Begun.the-variants as begun
 use Rattle.states_start.proofs.StartLaws.{three-or-four}
-use Rattle.states_arcs.specs.Results.{arcOf, resultsOf, endedOf}
+use Rattle.states_arcs.specs.Results.{arcOf, resultsOf, figuresOf, endedOf}
 use Rattle.states_arcs.specs.declared.figures.Arc.{Arc}
 use Rattle.states_arcs.specs.declared.figures.Results.{Results}
 use Rattle.states_arcs.specs.declared.figures.Ended.{Ended}
 use Rattle.states_arcs.specs.declared.figures.Ended.the-variants as ended
 use Rattle.states_arcs.proofs.EndLaws.{seven-or-eight}
-use Rattle.states.specs.Call.{Finder, searching, taking, refused, answered, reachedFound, reachedOverBy, reachedFromBy, reachedBegunBy, reachedOrbitBy, reachedReadBy, reachedWordsBy, endedAnswer, answerFrom, propagateBy}
+use Rattle.states.specs.Call.{Finder, searching, taking, refused, answered, reachedFound, reachedOverBy, reachedFromBy, reachedBegunBy, reachedOrbitBy, reachedReadBy, reachedWordsBy, endedAnswer, answerFrom, propagateBy, answerWords}
 use Rattle.states.specs.CallPromise.{Searches, intervalIn, searchedIn}
 use Rattle.states.specs.declared.figures.Answer.{Answer}
 use Rattle.states.specs.declared.figures.Reached.{Reached}
 use Rattle.states.specs.declared.figures.Reached.the-variants as reached
 use Rattle.states.proofs.CallPromise.{foundBy, leads, reaches, Settled, settled, psi-of}
 use Rattle.states_check.specs.Row.{nineWords, proposed, endsWith, acceptsAt, acceptsFrom, accepts}
-use Rattle.states_check.specs.RowPromise.{Acceptable, AcceptsSo, AcceptsExactly, anomalyIn, nineIn, AcceptsOwn, BesideCall, NeverRefused}
+use Rattle.states_check.specs.RowPromise.{Acceptable, AcceptsSo, AcceptsExactly, anomalyIn, nineIn, AcceptsOwn, InAnswer, OwnWords, BesideCall, NotBeforeSearch}
 
 -- ---- However an anomaly is come by, an arc is reached where the input gets as far as the search and the anomaly is found; otherwise there is a number.
 record ArcAt (find : Finder) (given : List ℕ) (arc : Arc) (n : ℕ) : Type 0 where
@@ -203,6 +203,10 @@ pub accepts-own : AcceptsOwn
 unfolding propagateBy
 accepts-own pr given z = own-from pr given (reachedWordsBy intervalOf (searching pr) given) (comes (searching pr) given) z
 
+pub own-words : OwnWords
+unfolding answerWords figuresOf
+own-words a = record { anomaly = refl; nine = refl }
+
 -- ---- Beside our own call.
 module _ (s : Start) (d : Interval) where
   abbrev AfterSearch : Answer → Type 0
@@ -229,9 +233,9 @@ ended-answers : (n : ℕ) (r : Results) (nine : List ℕ) → nineWords r ≡ ni
 unfolding endedAnswer answered
 ended-answers n r nine e = (refl, e)
 
-pub never-refused : NeverRefused
+pub not-before-search : NotBeforeSearch
 unfolding propagateBy reachedFound
-never-refused pr given anomaly nine x =
+not-before-search pr given anomaly nine x =
     let s = x .searches in
     record {
       after-search = rw (reaches intervalOf pr given s refl) (found-after (s .start) (intervalIn s) (foundBy pr (s .start .initial) (searchedIn s)));

@@ -20,7 +20,7 @@ use Rattle.states.specs.Call.{taking, reachedWordsBy}
 use Rattle.states.specs.declared.figures.Reached.{Reached}
 use Rattle.states.specs.declared.figures.Reached.the-variants as reached
 
--- "the nine end figures of position, velocity and acceleration": the first nine of the thirteen that a call answers, as words.
+-- "the nine end figures of position, velocity and acceleration": three each, in this order, the first nine of the thirteen that a call answers, as words.
 abbrev pub nineWords : Results → List ℕ
 nineWords r = take 9 (wordsOf (figuresOf r))
 

@@ -5,6 +5,7 @@ use mathlib.Core.List.{List}
 use mathlib.Core.Logic.{_⊎_}
 use Prim.Native.Nat.{ℕ, _≤_}
 use lib.Ieee.{binary64, toBits}
+use lib.ListN.{take, drop, getD}
 use Rattle.search.specs.Search.{Proposing, searchBy}
 use Rattle.search.specs.declared.figures.Finding.the-variants as finding
 use Rattle.search_check.specs.Right.{Right}
@@ -13,7 +14,7 @@ use Rattle.states_start.specs.Initial.{firstStepOf}
 use Rattle.states_arcs.specs.Results.{arcOf, endedOf}
 use Rattle.states_arcs.specs.declared.figures.Results.{Results}
 use Rattle.states_arcs.specs.declared.figures.Ended.the-variants as ended
-use Rattle.states.specs.Call.{propagateBy}
+use Rattle.states.specs.Call.{answerWords, propagateBy}
 use Rattle.states.specs.CallPromise.{Searches, intervalIn, searchedIn}
 use Rattle.states.specs.declared.figures.Answer.{Answer}
 use Rattle.states_check.specs.Row.{nineWords, proposed, accepts}
@@ -26,7 +27,7 @@ pub record Acceptable (given : List ℕ) (anomaly : ℕ) (nine : List ℕ) : Typ
   pub searches : Searches intervalOf given
   -- Of the interval that is searched.
   pub right : Right (searches .start .initial) (searchedIn searches) anomaly
-  -- 7 and 8 don't apply at it, and these are the results.
+  -- 7 and 8 don't apply at it, and these are the results. 8 is said of all that the call answers, the start's acceleration included, which no row carries.
   pub results : Results
   pub ends : endedOf (arcOf (searches .start) (intervalIn searches) (proposed anomaly)) ≡ ended.Results results
   pub figures : nineWords results ≡ nine
@@ -47,15 +48,21 @@ anomalyIn a = toBits binary64 (a .results .psi .0)
 abbrev pub nineIn : Answer → List ℕ
 nineIn a = nineWords (a .results)
 
+-- They are words of the fifteen that the call answers: ψ is the last; position, velocity and end acceleration are the nine behind the refusal and the points.
+pub record InAnswer (a : Answer) : Type 0 where
+  pub anomaly : anomalyIn a ≡ getD (answerWords a) 14 0
+  pub nine : nineIn a ≡ take 9 (drop 2 (answerWords a))
+
+abbrev pub OwnWords : Type 0
+OwnWords = (a : Answer) → InAnswer a
+
 -- Whatever formula proposes the inner points of the search: so the rows of a station that tries another one are accepted too.
 abbrev pub AcceptsOwn : Type 0
 AcceptsOwn =
     (pr : Proposing) (given : List ℕ) → let a = propagateBy intervalOf pr given in a .refusal ≡ 0 →
     accepts given (anomalyIn a) (nineIn a) ≡ true
 
--- ---- No accepted row could be refused by 31 to 38, 3, 4, 7 or 8.
-
--- Our own call on the input of an accepted row, whatever formula proposes its inner points.
+-- ---- No accepted row could be refused by 31 to 38, 3 or 4, nor at its own anomaly by 7 or 8: our own call on its input, whatever formula proposes its inner points.
 pub record BesideCall (pr : Proposing) (given : List ℕ) (anomaly : ℕ) (nine : List ℕ) (s : Searches intervalOf given) : Type 0 where
   -- It is refused by nothing that comes before the search: it answers, or its refusal is one of 5 to 8.
   pub after-search : let a = propagateBy intervalOf pr given in (a .refusal ≡ 0) ⊎ ((5 ≤ a .refusal) × (a .refusal ≤ 8))
@@ -66,5 +73,5 @@ pub record BesideCall (pr : Proposing) (given : List ℕ) (anomaly : ℕ) (nine 
       let a = propagateBy intervalOf pr given in
       (n : ℕ) → searchBy (pr i tau) i tau (firstStepOf i tau) ≡ finding.Found (proposed anomaly) n → (a .refusal ≡ 0) × (nineIn a ≡ nine)
 
-abbrev pub NeverRefused : Type 0
-NeverRefused = (pr : Proposing) (given : List ℕ) (anomaly : ℕ) (nine : List ℕ) (x : Acceptable given anomaly nine) → BesideCall pr given anomaly nine (x .searches)
+abbrev pub NotBeforeSearch : Type 0
+NotBeforeSearch = (pr : Proposing) (given : List ℕ) (anomaly : ℕ) (nine : List ℕ) (x : Acceptable given anomaly nine) → BesideCall pr given anomaly nine (x .searches)

@@ -4,14 +4,14 @@ use mathlib.Core.Path.{_≡_, sym, _∙_, ap}
 use mathlib.Core.List.{List}
 use native.Mathlib.Omega.{arith}
 use borrow.Author.Needs.{needs}
-use Rattle.files_check.specs.RowsFile.{rowPlace, mostRows, givenAt, anomalyAt, nineAt, verdictOf, verdictAt}
+use Rattle.files_check.specs.RowsFile.{rowPlace, mostRows, givenAt, proposedAt, nineAt, verdictOf, verdictAt}
 use Rattle.files_check.proofs.verdict_at.Statement.{statement}
 use Rattle.files_check.proofs.verdict_at.Tie as tie
 
-judged : (file : List ℕ) (k : ℕ) {place : ℕ} → place ≡ rowPlace k → {given nine : List ℕ} {anomaly : ℕ} → given ≡ givenAt file place → anomaly ≡ anomalyAt file place → nine ≡ nineAt file place
+judged : (file : List ℕ) (k : ℕ) {place : ℕ} → place ≡ rowPlace k → {given nine : List ℕ} {anomaly : ℕ} → given ≡ givenAt file place → anomaly ≡ proposedAt file place → nine ≡ nineAt file place
     → {r : ℕ} → r ≡ verdictOf given anomaly nine → r ≡ verdictAt file k
 judged file k e eg ea en er =
-    er ∙ (λ i. verdictOf (eg i) (ea i) (en i)) ∙ ap (λ (p : ℕ). verdictOf (givenAt file p) (anomalyAt file p) (nineAt file p)) e
+    er ∙ (λ i. verdictOf (eg i) (ea i) (en i)) ∙ ap (λ (p : ℕ). verdictOf (givenAt file p) (proposedAt file p) (nineAt file p)) e
 
 -- A place within the longest file.
 within : (k : ℕ) {place : ℕ} → k ≤ mostRows → place ≡ rowPlace k → place ≤ rowPlace mostRows

@@ -1,9 +1,9 @@
 -- The sign first, then the place.
 use mathlib.Core.Path.{sym, _∙_}
 use borrow.Author.Needs.{needs}
-use Rattle.search_check.specs.Right.{isSearched}
-use Rattle.search_check.proofs.is_searched.Statement.{statement}
-use Rattle.search_check.proofs.is_searched.Tie as tie
+use Rattle.search_check.specs.Right.{isRightBeyondZero}
+use Rattle.search_check.proofs.is_right_beyond_zero.Statement.{statement}
+use Rattle.search_check.proofs.is_right_beyond_zero.Tie as tie
 
 has-sign-of-requires : tie.Need-has-sign-of-requires
 has-sign-of-requires c κs = search needs
@@ -12,12 +12,12 @@ is-anomaly-requires : tie.Need-is-anomaly-requires
 is-anomaly-requires c κs = search needs
 
 returns : tie.Need-returns
-unfolding isSearched
+unfolding isRightBeyondZero
 returns c = simp (sym (c .before .before .has-sign-of .ensures) ∙ c .before .if1 .taken) (c .is-anomaly .ensures)
 
 returns-2 : tie.Need-returns-2
-unfolding isSearched
+unfolding isRightBeyondZero
 returns-2 c = simp (sym (c .before .has-sign-of .ensures) ∙ c .if1 .left)
 
-pub is-searched-spec : {M : Type 1} → statement M
-is-searched-spec = tie.close (tie.spec has-sign-of-requires is-anomaly-requires returns returns-2)
+pub is-right-beyond-zero-spec : {M : Type 1} → statement M
+is-right-beyond-zero-spec = tie.close (tie.spec has-sign-of-requires is-anomaly-requires returns returns-2)
