@@ -1,5 +1,5 @@
 -- Any two answers, with what they leave in the lent run, that the promise of the public function allows are equal: the promise names them.
-use mathlib.Core.Path.{refl, sym, _∙_}
+use mathlib.Core.Path.{sym, _∙_}
 use Rattle.bits.specs.OneAnswer.{OneAnswer}
 use Rattle.files_check.proofs.judge.Kinds as judge-kinds
 use Rattle.files_check.proofs.judge.Reads as judge-reads

@@ -1,24 +1,23 @@
 -- A file of rows has them, each in its place.
 use Prim.Native.Nat.{ℕ, zero, suc, _+_, _-_, _*_, _/_, _^_, _<_, _≤_}
-use mathlib.Core.Path.{_≡_, refl, sym, ap, ap₂, _∙_, subst}
-use mathlib.Core.Bool.{Bool, true}
+use mathlib.Core.Path.{_≡_, refl, sym, ap, ap₂, _∙_}
+use mathlib.Core.Bool.{Bool}
 use mathlib.Core.List.{List, [], _∷_, _++_, map, append-assoc, append-nil}
 use native.Mathlib.Omega.{arith}
 use native.Mathlib.Nat.{add-zero}
 use borrow.Author.Tests.{le-leb}
-use lib.Dec.{leb}
 use lib.ListN.{length, length-append, take, drop, getD}
 use lib.Seq.{drop-cons, append-snoc, take-at, drop-at, getD-at}
 use Rattle.bits.specs.Choice.{pick}
-use Rattle.files_words.specs.Bytes.{asBytes, words, wordAt, wordsFrom, Below}
+use Rattle.files_words.specs.Bytes.{words, wordsFrom, Below}
 use Rattle.files_words.proofs.WordLaws.{length-as-bytes, words-as-bytes, words-later, word-of-words, below-append}
 use Rattle.files_sections.specs.declared.checks.Check.the-variants.{Sound}
 use Rattle.files_sections.specs.declared.checks.Rule.the-variants.{Any}
-use Rattle.files_sections.specs.Checks.{need, _⟫_, walk, countCheck, countedCheck, endCheck, rulingOf}
+use Rattle.files_sections.specs.Checks.{walk, countCheck, countedCheck, endCheck, rulingOf}
 use Rattle.files_sections.proofs.CheckLaws.{sound-both, sound-need}
 use Rattle.states_check.proofs.RowLaws.{accepts-own}
 use Rattle.files_check.specs.RowsFile.{mostRows, rowWords, countPlace, rowPlace, rowsIn, rowsCheck, fieldsAt, givenAt, proposedAt, nineAt, verdictOf, verdictAt, verdictsOf, judgedOf, judgedBy, verdictsAfter, verdictsBy}
-use Rattle.files_check.specs.RowsPromise.{Row, wordsIn, IsRow, AreRows, allWords, fileOf, verdictOn, JudgedRows, JudgesRows, OurRowsPass}
+use Rattle.files_check.specs.RowsPromise.{Row, wordsIn, IsRow, AreRows, allWords, fileOf, verdictOn, JudgesRows, OurRowsPass}
 
 pub our-rows-pass : OurRowsPass
 unfolding verdictOf

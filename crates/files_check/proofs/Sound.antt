@@ -12,11 +12,11 @@ use Rattle.bits.specs.Choice.{pick}
 use Rattle.files_sections.specs.declared.checks.Check.{Check}
 use Rattle.files_sections.specs.declared.checks.Check.the-variants.{Sound, Fault}
 use Rattle.files_sections.specs.declared.checks.Rule.the-variants.{Any}
-use Rattle.files_sections.specs.Checks.{countedCheck, endCheck, rulingOf}
+use Rattle.files_sections.specs.Checks.{rulingOf}
 use Rattle.files_sections.proofs.CheckLaws.{both, needed}
 use Rattle.files_sections.proofs.CountedLaws.{count-within, words-within}
 use Rattle.files_check.specs.RowsFile.{mostRows, rowWords, countPlace, rowPlace, rowsIn, rowsCheck, judgedBy, judgedOf, withVerdicts, verdictsBy, verdictsAfter}
-use Rattle.files_check.specs.RowsPromise.{SoundFile, SoundSo, KeptOrJudged}
+use Rattle.files_check.specs.RowsPromise.{SoundSo, KeptOrJudged}
 
 pub sound-so : SoundSo
 unfolding rowsCheck

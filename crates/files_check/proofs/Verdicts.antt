@@ -1,9 +1,9 @@
 -- Verdicts put one after another.
-use Prim.Native.Nat.{ℕ, zero, suc, _+_, _-_, _<_, _≤_}
-use mathlib.Core.Path.{_≡_, refl, sym, ap, _∙_}
+use Prim.Native.Nat.{ℕ, zero, suc, _+_, _<_}
+use mathlib.Core.Path.{_≡_, refl, ap, _∙_}
 use mathlib.Core.List.{List, [], _∷_, _++_}
 use native.Mathlib.Omega.{arith}
-use lib.ListN.{length, length-append, take, drop, set, getD}
+use lib.ListN.{length, length-append, drop, set}
 use Rattle.files_check.specs.RowsFile.{verdictAt, verdictsOf, withVerdicts}
 
 pub verdicts-length : (file : List ℕ) (n : ℕ) → length (verdictsOf file n) ≡ n

@@ -1,11 +1,10 @@
 -- A place passes exactly where it is an anomaly's, for any trial function; and two points of that function are all that it takes.
-use Prim.Native.Nat.{ℕ, zero, suc, _+_, _-_, _<_}
+use Prim.Native.Nat.{ℕ, zero, suc, _+_, _-_}
 use mathlib.Core.Path.{_≡_, refl, sym, ap, _∙_, subst}
 use mathlib.Core.Bool.{Bool, true, false, true≢false}
 use mathlib.Core.Logic.{_⊎_, inl, inr, ⊎-elim}
 use native.Mathlib.Omega.{arith}
 use borrow.Author.Tests.{eqb-true, eq-eqb}
-use lib.Dec.{eqb}
 use lib.Ieee.{Float}
 use Rattle.search_points.specs.declared.figures.Sort.{Sort}
 use Rattle.search_points.specs.declared.figures.Sort.the-variants.{Short, Past, Exact, Unreadable}
@@ -15,7 +14,7 @@ use Rattle.search_rule.specs.Rule.{Trials, endAt}
 use Rattle.search_rule.specs.Nearer.{isSmaller, nearerEnd}
 use Rattle.search_rule.specs.RulePromise.{IsAnomaly, Neighbours}
 use Rattle.search_rule.proofs.Nearest.{chosen-so}
-use Rattle.search_check.specs.Passing.{picks, shortBeside, pastBeside, shortPasses, pastPasses, passesAs, passes, PassesSo, PassesExactly, SameTwo, TwoPoints}
+use Rattle.search_check.specs.Passing.{picks, shortBeside, pastBeside, shortPasses, pastPasses, passesAs, passes, PassesExactly, SameTwo, TwoPoints}
 
 picked : (short past : End) (p : ℕ) → picks short past p ≡ true → p ≡ nearerEnd short past .place
 unfolding picks

@@ -6,7 +6,7 @@ use mathlib.Core.Logic.{_⊎_, inl, inr, ⊎-elim}
 use native.Mathlib.Omega.{arith}
 use borrow.Author.Tests.{le-leb, lt-leb, leb-true, lt-ltb, ltb-true, eqb-true, eq-eqb}
 use lib.Dec.{T, leb, ltb, eqb}
-use lib.Ieee.{Float, binary64, nanBits, neg, lt, eq, ofBits, toBits}
+use lib.Ieee.{binary64, lt, eq, ofBits, toBits}
 use lib.Ieee.Bits.{nanBits-is, toBits-ofBits}
 use Rattle.bits.specs.Choice.{pick}
 use Rattle.bits.specs.Arithmetic.{n0}
@@ -15,21 +15,17 @@ use Rattle.bits.proofs.Doubles.{no-nan-bits}
 use Rattle.series.specs.declared.figures.Anomaly.{Anomaly}
 use Rattle.series.specs.declared.figures.Seconds.{Seconds}
 use Rattle.search_points.specs.declared.figures.Initial.{Initial}
-use Rattle.search_points.specs.declared.figures.Sort.{Sort}
 use Rattle.search_points.specs.declared.figures.Sort.the-variants.{Short, Past, Exact, Unreadable}
 use Rattle.search_points.specs.Trial.{anomalyAt, trialAt}
 use Rattle.search_points.proofs.Points.{signed-word, sign-bound, signed-field}
 use Rattle.search_rule.specs.declared.pair.End.{End}
-use Rattle.search_rule.specs.Rule.{Proposal}
-use Rattle.search_rule.specs.Nearer.{nearerEnd}
-use Rattle.search_rule.specs.RulePromise.{IsAnomaly, Neighbours}
-use Rattle.search.specs.Search.{searchBy}
+use Rattle.search_rule.specs.RulePromise.{IsAnomaly}
 use Rattle.search.specs.SearchPromise.{Says}
 use Rattle.search.specs.declared.figures.Finding.{Finding}
 use Rattle.search.specs.declared.figures.Finding.the-variants as finding
 use Rattle.search.proofs.Instance.{promise-by}
 use Rattle.search_check.specs.Passing.{passes}
-use Rattle.search_check.specs.Right.{hasSignOf, placeIn, isRightBeyondZero, isRight, HasSign, RightAtZero, RightBeyondZero, Right, RightSo, RightExactly, RightIs, RightMeans, FoundRight, FindsRight}
+use Rattle.search_check.specs.Right.{hasSignOf, placeIn, isRightBeyondZero, isRight, HasSign, RightBeyondZero, Right, RightExactly, RightMeans, FoundRight, FindsRight}
 use Rattle.search_check.proofs.PassLaws.{passes-exactly, one-of}
 use Rattle.search_check.proofs.Sorted.{sorted-readable}
 

@@ -1,19 +1,15 @@
 -- What the code's proofs cite: a short place is below 2047·2^52, and a past place above 0.
 use Prim.Native.Nat.{ℕ, _^_, _<_}
-use mathlib.Core.Path.{_≡_, refl, sym, ap, _∙_, subst}
-use mathlib.Core.Bool.{Bool, true, false}
+use mathlib.Core.Path.{_≡_, sym, ap, _∙_, subst}
 use native.Mathlib.Omega.{arith}
 use native.Mathlib.Decide.{decLt}
-use borrow.Author.Tests.{le-leb, eq-eqb, ne-eqb}
-use lib.Dec.{leb, eqb}
-use lib.Ieee.{Float, neg}
-use Rattle.bits.specs.Choice.{pick}
+use borrow.Author.Tests.{le-leb, ne-eqb}
+use lib.Ieee.{Float}
 use Rattle.bits.specs.Words.{infinity}
 use Rattle.series.specs.declared.figures.Seconds.{Seconds}
 use Rattle.search_points.specs.declared.figures.Initial.{Initial}
 use Rattle.search_points.specs.declared.figures.Sort.{Sort}
 use Rattle.search_points.specs.declared.figures.Sort.the-variants.{Short, Past, Exact, Unreadable}
-use Rattle.search_points.specs.declared.figures.Trial.{Trial}
 use Rattle.search_points.specs.Trial.{trialAt}
 
 abbrev pub IsUnreadable : Sort → Type 0

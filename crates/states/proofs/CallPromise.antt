@@ -12,7 +12,7 @@ use lib.Ieee.{Float, nan, inf, fin, mul, div, ofBits}
 use Rattle.bits.specs.Choice.{pick}
 use Rattle.bits.specs.Arithmetic.{_⊗_, _⊘_, n0, isFinite}
 use Rattle.bits.specs.Words.{wordsOf}
-use Rattle.search.specs.Search.{Proposing, searchBy}
+use Rattle.search.specs.Search.{Proposing}
 use Rattle.series.specs.declared.figures.Anomaly.{Anomaly}
 use Rattle.series.specs.declared.figures.Seconds.{Seconds}
 use Rattle.search_points.specs.Trial.{anomalyAt}

@@ -11,7 +11,6 @@ use Rattle.bits.specs.Choice.{pick}
 use Rattle.bits.specs.Arithmetic.{isFinite}
 use Rattle.bits.specs.Runs.{firstOf}
 use Rattle.bits.specs.declared.runs.Sought.the-variants.{NotFinite}
-use Rattle.search.specs.Search.{Proposing}
 use Rattle.search.specs.declared.figures.Finding.{Finding}
 use Rattle.search.specs.declared.figures.Finding.the-variants as finding
 use Rattle.states_revolutions.specs.declared.figures.WholeInterval.{WholeInterval}

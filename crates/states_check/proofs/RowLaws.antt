@@ -43,7 +43,7 @@ use Rattle.states.specs.declared.figures.Reached.{Reached}
 use Rattle.states.specs.declared.figures.Reached.the-variants as reached
 use Rattle.states.proofs.CallPromise.{foundBy, leads, reaches, Settled, settled, psi-of}
 use Rattle.states_check.specs.Row.{nineWords, proposed, endsWith, acceptsAt, acceptsFrom, accepts}
-use Rattle.states_check.specs.RowPromise.{Acceptable, AcceptsSo, AcceptsExactly, anomalyIn, nineIn, AcceptsOwn, InAnswer, OwnWords, BesideCall, NotBeforeSearch}
+use Rattle.states_check.specs.RowPromise.{Acceptable, AcceptsExactly, anomalyIn, nineIn, AcceptsOwn, OwnWords, NotBeforeSearch}
 
 -- ---- However an anomaly is come by, an arc is reached where the input gets as far as the search and the anomaly is found; otherwise there is a number.
 record ArcAt (find : Finder) (given : List ℕ) (arc : Arc) (n : ℕ) : Type 0 where

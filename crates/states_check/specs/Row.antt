@@ -1,6 +1,6 @@
 -- Document 02, T-06: "Partners send rows with eight input words, a proposed anomaly and the nine end figures of position, velocity and acceleration. We want a yes or no
 -- per row, without rerunning the search." What is "yes" in the document's own words is `Acceptable` of RowPromise; here it is told, step by step, as the code tells it.
-use mathlib.Core.Bool.{Bool, true, false}
+use mathlib.Core.Bool.{Bool, false}
 use mathlib.Core.List.{List}
 use Prim.Native.Nat.{ℕ}
 use lib.Ieee.{binary64, ofBits}

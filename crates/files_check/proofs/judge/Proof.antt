@@ -1,12 +1,12 @@
 -- Each arm is the definition at what the check found.
-use Prim.Native.Nat.{ℕ, _≤_}
-use mathlib.Core.Path.{_≡_, refl, sym, ap, _∙_}
+use Prim.Native.Nat.{ℕ}
+use mathlib.Core.Path.{_≡_, refl, sym, _∙_}
 use mathlib.Core.List.{List}
 use native.Mathlib.Omega.{arith}
 use borrow.Author.Needs.{needs}
 use lib.ListN.{length}
 use Rattle.files_sections.specs.declared.checks.Check.{Check}
-use Rattle.files_sections.specs.declared.checks.Check.the-variants.{Sound, Fault}
+use Rattle.files_sections.specs.declared.checks.Check.the-variants.{Sound}
 use Rattle.files_check.specs.RowsFile.{rowsIn, rowsCheck, judgedBy, judgedOf, verdictsBy, verdictsAfter}
 use Rattle.files_check.specs.declared.Judged.{Judged}
 use Rattle.files_check.proofs.Sound.{few-rows}

@@ -1,5 +1,5 @@
 -- The test is the definition's.
-use mathlib.Core.Path.{_≡_, sym, _∙_, ap}
+use mathlib.Core.Path.{sym, _∙_, ap}
 use borrow.Author.Needs.{needs}
 use Rattle.states_arcs.specs.declared.figures.Ended.{Ended}
 use Rattle.states_check.specs.Row.{endsWith, acceptsAt}
