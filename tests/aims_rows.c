@@ -192,11 +192,9 @@ static void see_figures(const struct start *s, const uint64_t *row)
     see(BY_NAN, (row[FIGURES + which] & ~SIGN) > INFINITE);
 }
 
-/* Whether it is the fault alone. A past end beside a NaN always comes with 8: of two infinite terms in R one makes g infinite. */
+/* Whether it is the fault of the anomaly alone. */
 static int alone(enum aim fault, unsigned results, const struct start *s, const uint64_t *row)
 {
-    if (fault == PAST_UNREADABLE)
-        return 1;
     if (fault == WRONG_SIGN && fault_of(s, row[PSI] ^ SIGN) != RIGHT)
         return 0;
     return results == 0 && by_formulas(s, row);

@@ -192,15 +192,15 @@ void near_psi_row(uint64_t *row, uint64_t turn)
 
 /* ---- anomalies that no search finds ---- */
 
-/* From two places, of which one can be read, to two neighbours of which one can; the lower of these. */
-static uint64_t edge_of_readable(const struct start *s, uint64_t low, uint64_t high)
+/* The last place that can be read, or one of several such where they are not in order. */
+static uint64_t last_readable(const struct start *s)
 {
-    int readable = sec_sorted(s, low).sort != UNREADABLE;
+    uint64_t low = 0, high = INFINITE;
 
     while (high - low > 1) {
         uint64_t middle = low + (high - low) / 2;
 
-        if ((sec_sorted(s, middle).sort != UNREADABLE) == readable)
+        if (sec_sorted(s, middle).sort != UNREADABLE)
             low = middle;
         else
             high = middle;
@@ -234,7 +234,7 @@ void far_psi_row(uint64_t *row, uint64_t turn)
     do
         makers[turn / 6 % 4](row);
     while (start_of(row, &s) != 0 || sec_zero(s.searched));
-    place = edge_of_readable(&s, 0, INFINITE);
+    place = last_readable(&s);
     switch (turn % 6) {
     case 0:
         break;
@@ -258,23 +258,42 @@ void far_psi_row(uint64_t *row, uint64_t turn)
     propose(row, (sec_word(s.searched) & SIGN) | (place & ~SIGN));
 }
 
+/* An x, with which sigma0 s2 overflows at this place and not at the next one; 0 where s2 does not go down from the one to the other. */
+static double overflows_at(const struct start *s, double speed, uint64_t place)
+{
+    double inner = sec_figures(s, sec_double(place)).s2, outer = sec_figures(s, sec_double(place + 1)).s2;
+    double x = 0x1p1000 / inner * 0x1p24 / speed * (1 - 0x1p-51);
+    int i;
+
+    for (i = 0; outer < inner && i < 8; i++, x = nextafter(x, INFINITY))
+        if (!isfinite(x * speed * inner) && isfinite(x * speed * outer))
+            return x;
+    return 0;
+}
+
 /*
-**  A past place whose inner neighbour cannot be read. On so wide an ellipse, straight towards the centre, the term in mu is infinite, and that in
-**  sigma0 is from about a quarter of a revolution to shortly before its end: there R is a NaN, and behind it past. P is infinite.
+**  A past place whose inner neighbour cannot be read. Towards the centre without a pull r0 s1 is infinite there, and sigma0 s2 at the inner place alone: of two
+**  infinite terms R is a NaN, of one it is past. s2 goes by alpha, and up and down by last places where c0 stays as it is.
 */
 void beyond_nan_row(uint64_t *row, uint64_t turn)
 {
-    double sign = any_sign(1.0), back = any_sign(1.0), slow = 0x1p-992, v = 0x1p-470, r = power(508, 511), p[3] = { 0, 0, 0 }, u[3] = { 0, 0, 0 };
-    uint64_t low = sec_word(3.14 / sqrt(slow)), high = sec_word(6.2 / sqrt(slow));     /* half a revolution, and nearly a whole one */
+    double speed = around(-40, -20), side = any_sign(1.0), back = any_sign(1.0), mu = any_sign(0.0), x;
+    double p[3] = { 0, 0, 0 }, v[3] = { 0, 0, 0 };
+    uint64_t place = sec_word(between(350, 360) / speed);
     int axis = any_from(0, 2);
     struct start s;
 
     (void)turn;
-    p[axis] = sign * r;
-    u[axis] = -back * sign * v;
-    put(row, (v * v + slow) * r / 2, p, u, back * around(900, 1000));
+    p[axis] = side;
+    v[axis] = -back * side * speed;
+    put(row, mu, p, v, back);
     start_of(row, &s);
-    put_anomaly(&s, (sec_word(s.searched) & SIGN) | (edge_of_readable(&s, low, high) + 1), row);
+    while ((x = overflows_at(&s, speed, place)) == 0)
+        place++;
+    p[axis] = side * x;
+    p[(axis + 1) % 3] = any_sign(x / 2);
+    put(row, mu, p, v, back * x / speed);
+    propose(row, (kelubashi_word(back) & SIGN) | (place + 1));
 }
 
 /* The anomaly of the whole interval, and the figures for it: what a station without T-04 sends. */

@@ -71,14 +71,14 @@ static void long_cut(struct file *f, uint64_t turn)
     f->length = turn % 2 ? f->length - 1 - turn / 2 % 20 : edge + turn / 2 % 3;
 }
 
-/* From 1 to 17 bytes behind the rows, and at times so many that 16 bits would take the length for that of a cut. */
+/* From 1 to 17 bytes behind the rows, and behind few of them at times so many that 16 bits would take the length for that of a cut. */
 static void longer(struct file *f, uint64_t turn)
 {
-    static const uint64_t counts[] = { 0, 1, 2, 2, 2, 2, 2, 400 };
+    static const uint64_t counts[] = { 400, 0, 1, 2, 2, 2, 2, 2 };
     size_t end;
 
     rows_of(f, counts[turn % 8]);
-    end = one_in(9) ? 65536 + any_below(f->length + 1) : f->length + 1 + turn / 8 % 17;
+    end = turn % 8 != 0 && one_in(9) ? 65536 + any_below(f->length + 1) : f->length + 1 + turn / 8 % 17;
     for (; f->length < end; f->length++)
         f->bytes[f->length] = (uint8_t)any_word();
 }
