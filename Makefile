@@ -14,10 +14,10 @@
 
 X86 = sh tests/machine.sh
 STRICT = -std=c99 -Wall -Wextra -pedantic -Werror -O2 -ffp-contract=off
-TESTS = $(COMPARISONS) build/tests/second/selftest $(GUIDED) build/tests/root build/tests/cases build/tests/case_files build/tests/case_rows
+TESTS = $(COMPARISONS) build/tests/second/selftest $(GUIDED) build/tests/root build/tests/cases build/tests/case_files build/tests/case_rows build/tests/case_compare
 
-# The library against the second program: states and partials, then files, then the summary, then another station's rows.
-COMPARISONS = build/tests/propagate build/tests/files build/tests/summary build/tests/rows
+# The library against the second program: states and partials, then files, then the summary, then another station's rows, then two stations' results.
+COMPARISONS = build/tests/propagate build/tests/files build/tests/summary build/tests/rows build/tests/compare
 
 # The same on inputs that find their own way, by those before them.
 GUIDED = build/tests/guided
@@ -31,8 +31,8 @@ FIRST = 0
 INPUT =
 
 # The table's rows.
-BENCH = root propagate partials years results check summary append withdraw
-BESIDE = bench/plain.c bench/plain_root.c bench/plain_search.c bench/plain_results.c bench/plain_check.c bench/plain_summary.c bench/newton.c bench/orbits.c bench/roster.c bench/empty.c bench/row.c
+BENCH = root propagate partials years results check compare summary append withdraw
+BESIDE = bench/plain.c bench/plain_root.c bench/plain_search.c bench/plain_results.c bench/plain_check.c bench/plain_compare.c bench/plain_summary.c bench/newton.c bench/orbits.c bench/elements.c bench/roster.c bench/empty.c bench/row.c
 
 # rt proves so many crates, or tries so many wrong programs, at a time; with fewer processors than that, none waits for the longest of a pair.
 export RT_JOBS = 4
@@ -81,7 +81,7 @@ accuracy: machine build/bench/accuracy
 proved: kit
 	@mkdir -p build
 	@echo 'proved: rt proves what the library and the program rest on, and the program'
-	@rt check states files files_summary files_check propagate >build/proved.log 2>&1 || { cut -c 1-1500 build/proved.log; exit 1; }
+	@rt check states files files_summary files_check files_compare propagate >build/proved.log 2>&1 || { cut -c 1-1500 build/proved.log; exit 1; }
 
 # Always asked of rt, which alone knows by content what target/ has proved already. rt ci removes
 # target/ and proves all anew, so a copy stays in build/ for the hosts. What the library rests on comes
@@ -89,7 +89,7 @@ proved: kit
 lib: kit
 	@mkdir -p build
 	@echo 'library: rt proves what target/ does not have yet, then build/libkelubashi.a is written'
-	@{ rt check states files files_results files_summary files_check && rt staticlib kelubashi; } >build/library.log 2>&1 || { cut -c 1-1500 build/library.log; exit 1; }
+	@{ rt check states files files_results files_summary files_check files_compare && rt staticlib kelubashi; } >build/library.log 2>&1 || { cut -c 1-1500 build/library.log; exit 1; }
 	@cp target/staticlib/libkelubashi.a build/
 
 # As for the library: rt alone knows what is proved, and a copy stays in build/.
@@ -112,7 +112,7 @@ install-files uninstall: export INTO = $(DESTDIR)$(PREFIX)
 PROGRAMS = propagate kelubashi
 INTERFACE = kelubashi.h kelubashi_selfcheck.h
 PAGES = $(notdir $(wildcard man/*))
-LINKED = $(patsubst %,kelubashi1_%.3,root propagate partials read write results check summary append withdraw) \
+LINKED = $(patsubst %,kelubashi1_%.3,root propagate partials read write results check compare summary append withdraw) \
 	$(patsubst %,kelubashi_%.3,propagate partials refusal_text refusal_advice)
 FOLDERS = bin include lib/pkgconfig share/kelubashi share/man/man1 share/man/man3 share/man/man5
 
@@ -191,13 +191,13 @@ sanitized: build/tests/second_results build/tests/second_rows
 	@sh tests/sanitize.sh
 
 commanded: machine command build/tests/kelubashi_faulty build/tests/second_results build/tests/second_rows
-	@for script in tests/command.sh tests/command_rows.sh; do \
+	@for script in tests/command.sh tests/command_rows.sh tests/command_compare.sh; do \
 		sh $$script 'over the library' 'sh tests/machine.sh run build/kelubashi' 'sh tests/machine.sh run build/tests/kelubashi_faulty' || exit 1; \
 	done
 
-SECOND = $(patsubst %,build/tests/second/%.o,root series revolutions search states walk files summary rows)
+SECOND = $(patsubst %,build/tests/second/%.o,root series revolutions search states walk files summary rows compare)
 TRACED = $(SECOND:build/tests/second/%=build/tests/traced/%)
-SELFTEST = $(patsubst %,build/tests/second/selftest%.o,_root _calls _search _revolutions _turns _orbits _files _summary _changes _refused _bad _rows _formulas _sentence _checked _anomaly _edges _row_file)
+SELFTEST = $(patsubst %,build/tests/second/selftest%.o,_root _calls _search _revolutions _turns _orbits _files _summary _changes _refused _bad _rows _formulas _sentence _checked _anomaly _edges _row_file _steps _compare _two_files)
 HEADERS = $(wildcard include/*.h command/*.h command/parts/*.h tests/*.h tests/second/*.h)
 
 # The command: plain C99 and POSIX, with no warning of conversions either.
@@ -208,14 +208,14 @@ build/host/%: STRICT += -Wconversion
 build/kelubashi: $(COMMAND) machine lib
 	@$(X86) compile $(STRICT) -o $@ $(COMMAND) build/libkelubashi.a
 
-# The same, with faults of the machine before the system's calls, and before two of the library's.
-WRAPPED = $(patsubst %,-Wl$(comma)--wrap=%,rename fsync close fchmod write read kelubashi1_summary kelubashi1_check)
+# The same, with faults of the machine before the system's calls, and before three of the library's.
+WRAPPED = $(patsubst %,-Wl$(comma)--wrap=%,rename fsync close fchmod write read kelubashi1_summary kelubashi1_check kelubashi1_compare)
 comma = ,
 build/tests/kelubashi_faulty: $(COMMAND) build/tests/command_faults.o machine lib
 	@$(X86) compile $(STRICT) $(WRAPPED) -o $@ $(COMMAND) build/tests/command_faults.o build/libkelubashi.a
 
 build/host/example: build/host/kelubashi_selfcheck.o
-build/tests/case_files build/tests/case_rows: build/tests/expected.o
+build/tests/case_files build/tests/case_rows build/tests/case_compare: build/tests/expected.o
 build/tests/facts build/tests/stack: build/tests/one_row.o
 build/tests/facts: STRICT += -pthread
 ASK_STATES = $(patsubst %,build/tests/%.o,drive orbits aimed aimed_search aimed_revolutions inputs ask_state)
@@ -223,10 +223,12 @@ ASK_FILES = $(patsubst %,build/tests/%.o,drive orbits sections damaged lent ask_
 build/tests/propagate: $(ASK_STATES) build/tests/aims.o $(SECOND)
 ASK_ROSTERS = $(patsubst %,build/tests/%.o,drive orbits records rosters roster_calls held entries rules_summary aims_summary ask_summary)
 ASK_ROWS = $(patsubst %,build/tests/%.o,drive orbits aimed aimed_search aimed_revolutions inputs sections lent other_search made_rows row_files rules_rows aims_rows ask_rows second/selftest_formulas)
+ASK_PAIRS = $(patsubst %,build/tests/%.o,drive orbits sections lent line made_results result_pairs rules_compare aims_compare ask_compare)
 build/tests/files: $(ASK_FILES) $(SECOND)
 build/tests/summary: $(ASK_ROSTERS) $(SECOND)
 build/tests/rows: $(ASK_ROWS) $(SECOND)
-$(GUIDED): $(ASK_STATES) $(ASK_FILES) $(ASK_ROSTERS) $(ASK_ROWS) $(patsubst %,build/tests/%.o,edges corpus packed changes changes_file changes_roster changes_rows) $(TRACED)
+build/tests/compare: $(ASK_PAIRS) $(SECOND)
+$(GUIDED): $(ASK_STATES) $(ASK_FILES) $(ASK_ROSTERS) $(ASK_ROWS) $(ASK_PAIRS) $(patsubst %,build/tests/%.o,edges corpus packed changes changes_file changes_roster changes_rows changes_compare) $(TRACED)
 
 build/%: %.c $(HEADERS) machine lib
 	@mkdir -p $(@D)

@@ -38,6 +38,13 @@ uint64_t empty_check(const uint8_t *file, size_t length, uint64_t *verdicts, siz
     return 0;
 }
 
+uint64_t empty_compare(const uint8_t *left, size_t left_length, const uint8_t *right, size_t right_length,
+                       uint64_t *rows, size_t k, uint64_t *answer, size_t n)
+{
+    (void)left, (void)left_length, (void)right, (void)right_length, (void)rows, (void)k, (void)answer, (void)n;
+    return 0;
+}
+
 uint64_t empty_summary(const uint64_t *states, size_t words, uint64_t count, uint64_t centres, uint64_t *list, size_t k,
                        uint64_t *answer, size_t n)
 {

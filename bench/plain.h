@@ -23,6 +23,9 @@ uint64_t plain_results(const uint8_t *file, size_t length, uint8_t *room, size_t
 
 uint64_t plain_check(const uint8_t *file, size_t length, uint64_t *verdicts, size_t k, uint64_t *answer, size_t n);
 
+uint64_t plain_compare(const uint8_t *left, size_t left_length, const uint8_t *right, size_t right_length,
+                       uint64_t *rows, size_t k, uint64_t *answer, size_t n);
+
 uint64_t plain_summary(const uint64_t *states, size_t words, uint64_t count, uint64_t centres, uint64_t *list, size_t k,
                        uint64_t *answer, size_t n);
 

@@ -1,8 +1,8 @@
 /*
 **  The row of a whole element file: 16 centres, 500 states of the fixed set, 1,500 requests. The library is also asked for fewer requests of the same states.
 */
+#include "elements.h"
 #include "kelubashi.h"
-#include "orbits.h"
 #include "plain.h"
 #include "row.h"
 
@@ -20,36 +20,6 @@ static uint64_t (*const calls[])(const uint8_t *, size_t, uint8_t *, size_t, uin
 
 static uint8_t files[sizeof requests / sizeof requests[0]][KELUBASHI_MOST_FILE], room[KELUBASHI_MOST_RESULTS];
 static size_t lengths[sizeof requests / sizeof requests[0]];
-
-static void put(size_t file, uint64_t word)
-{
-    memcpy(files[file] + lengths[file], &word, 8);
-    lengths[file] += 8;
-}
-
-/* The states in turn, so that each orbit of the set comes about as often; a state's requests have other intervals. */
-static void fill(size_t file)
-{
-    uint64_t i;
-    size_t k;
-
-    put(file, 1);
-    put(file, KELUBASHI_MOST_CENTRES);
-    for (i = 0; i < KELUBASHI_MOST_CENTRES; i++)
-        put(file, orbits[0][0]);
-    put(file, KELUBASHI_MOST_STATES);
-    for (i = 0; i < KELUBASHI_MOST_STATES; i++) {
-        put(file, i % KELUBASHI_MOST_CENTRES);
-        put(file, 0);     /* epoch +0 */
-        for (k = 1; k < 7; k++)
-            put(file, orbits[i % ORBITS][k]);
-    }
-    put(file, requests[file]);
-    for (i = 0; i < requests[file]; i++) {
-        put(file, i % KELUBASHI_MOST_STATES);
-        put(file, orbits[(i + i / KELUBASHI_MOST_STATES) % 8][7]);
-    }
-}
 
 static void pass(size_t column)
 {
@@ -78,8 +48,7 @@ int main(int count, char **words)
     const struct row row = { columns, 1, pass, check };
     size_t i;
 
-    orbits_fill();
     for (i = 0; i < sizeof requests / sizeof requests[0]; i++)
-        fill(i);
+        lengths[i] = elements_fill(files[i], requests[i]);
     return row_run(&row, count, words);
 }

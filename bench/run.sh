@@ -1,5 +1,5 @@
 #!/bin/sh
-# Prints the table of the rows given (root, propagate, partials, years, results, check, summary, append, withdraw), whose programs are in build/bench/, how two of
+# Prints the table of the rows given (root, propagate, partials, years, results, check, compare, summary, append, withdraw), whose programs are in build/bench/, how two of
 # them grow, and the root by classes of numbers.
 #
 # Instructions are counted under the emulator on every machine, so that all count alike. Time is measured
@@ -78,7 +78,7 @@ choose() {
 instructions_of() {
     times=$passes
     case $1 in
-    results | check) times=1 ;;     # a pass is a whole file, or four
+    results | check | compare) times=1 ;;     # a pass is a whole file, or several
     esac
     once=$("$count" "$build/bench/$1" "$2" "$times")
     twice=$("$count" "$build/bench/$1" "$2" $((2 * times)))
@@ -115,6 +115,10 @@ beside() {
             "$(per_call "$1" check 'plain files' 'empty files') plain C; a propagation of the same orbits:" \
             "$(per_call "$1" check 'library propagate' 'empty propagate') library," \
             "$(per_call "$1" check 'plain propagate' 'empty propagate') plain C"
+        ;;
+    compare)
+        echo "files of 14 rows: $(per_call "$1" compare 'library small' 'empty small') library," \
+            "$(per_call "$1" compare 'plain small' 'empty small') plain C"
         ;;
     summary) echo "all entries in one walk: $(per_call "$1" summary one_walk)" ;;
     esac

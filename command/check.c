@@ -2,6 +2,7 @@
 **  kelubashi check: another station's rows, a line for each that is not accepted, with what our own call makes of its input.
 */
 #include "command.h"
+#include "parts/figures.h"
 #include "parts/row_file.h"
 #include "parts/say.h"
 
@@ -40,7 +41,6 @@ static void show_anomaly(uint64_t theirs, uint64_t ours)
 /* Where the anomaly is ours, and so the figures are at fault: the first that is another than ours, and how many are. */
 static void show_figures(const uint64_t *theirs, const uint64_t *ours)
 {
-    static const char *const UNITS[] = { "km", "km/s", "km/s^2" };
     size_t word, first = KELUBASHI_CHECK_X, differ = 0;
 
     for (word = KELUBASHI_CHECK_ROW; word-- > KELUBASHI_CHECK_X;)
@@ -52,8 +52,8 @@ static void show_figures(const uint64_t *theirs, const uint64_t *ours)
         printf(", though it is our own answer word for word: the library contradicts itself: install it anew\n");
     else
         printf(": its psi is ours, but %s is %.17g %s, and ours %.17g %s; figures that differ: %lu of %d\n",
-               row_word_name(first), kelubashi_figure(theirs[first]), UNITS[(first - KELUBASHI_CHECK_X) / 3],
-               kelubashi_figure(ours[first]), UNITS[(first - KELUBASHI_CHECK_X) / 3], (unsigned long)differ, (int)FIGURES);
+               row_word_name(first), kelubashi_figure(theirs[first]), unit_of(first - KELUBASHI_CHECK_X),
+               kelubashi_figure(ours[first]), unit_of(first - KELUBASHI_CHECK_X), (unsigned long)differ, (int)FIGURES);
 }
 
 static void show_row(const struct row_file *rows, size_t row)

@@ -18,7 +18,7 @@
 
 static const struct subcommand *const SUBCOMMANDS[] = {
     &results_subcommand, &show_subcommand, &elements_subcommand, &read_subcommand, &centres_subcommand,
-    &check_subcommand, &rows_subcommand, &state_subcommand, &selfcheck_subcommand
+    &check_subcommand, &rows_subcommand, &compare_subcommand, &state_subcommand, &selfcheck_subcommand
 };
 
 enum { SUBCOMMAND_COUNT = sizeof SUBCOMMANDS / sizeof SUBCOMMANDS[0] };
@@ -26,7 +26,7 @@ enum { SUBCOMMAND_COUNT = sizeof SUBCOMMANDS / sizeof SUBCOMMANDS[0] };
 static const char EXIT_STATUS[] =
     "Exit status:\n"
     "  0  all well\n"
-    "  1  done, but something is refused, not accepted or left over\n"
+    "  1  done, but something is refused, not accepted, moved or left over\n"
     "  2  not done: cannot read, write, or understand the call\n"
     "  3  the self-check failed\n";
 

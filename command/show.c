@@ -34,7 +34,8 @@ static void show_refusal(const struct element_file *elements, size_t row, uint64
 {
     char origin[ORIGIN_TEXT];
 
-    printf(" refused (%" PRIu64 "): %s", refusal, kelubashi_refusal_text(refusal));
+    printf(" ");
+    put_refusal(stdout, refusal);
     if (describe_origin(elements, row, refusal, origin, sizeof origin))
         printf(": %s", origin);
     printf("\n");

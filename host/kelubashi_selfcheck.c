@@ -508,6 +508,124 @@ static const char *rows(void)
     return checking("checking rows, with a run a word short", CHECKED_BYTES, CHECKED_ROWS - 1, NO_ROOM);
 }
 
+/* ---- result files of P10's row again and again, with one word of each row other on either side ---- */
+
+#define LARGEST W(7FEFFFFFFFFFFFFF)
+#define INFINITY_WORD W(7FF0000000000000)
+
+#define ANSWERED(kind) KELUBASHI_ROW_ANSWERED, KELUBASHI_FIGURE_##kind
+
+static const struct compared {
+    const char *name;
+    int word;                       /* of the row */
+    uint64_t left, right;           /* what stands there */
+    uint64_t row, figure, distance; /* what is told of the row and, where it is answered, of that word */
+} COMPARED[] = {
+    { "equal rows", KELUBASHI_X, W(3FF0000000000000), W(3FF0000000000000), ANSWERED(DISTANCE), 0 },
+    { "rows with other points", KELUBASHI_POINTS, 21, 22, ANSWERED(DISTANCE), 0 },
+    { "a figure by a place", KELUBASHI_X, W(3FF0000000000000), W(3FEFFFFFFFFFFFFF), ANSWERED(DISTANCE), 1 },
+    { "both zeros", KELUBASHI_Y, 0, MINUS_ZERO, ANSWERED(DISTANCE), 0 },
+    { "the figures beside zero", KELUBASHI_END_AZ, 1, MINUS_ZERO | 1, ANSWERED(DISTANCE), 2 },
+    { "figures from end to end", KELUBASHI_VZ, MINUS_ZERO | LARGEST, LARGEST, ANSWERED(DISTANCE), 2 * LARGEST },
+    { "figures from end to end again", KELUBASHI_Y, LARGEST, MINUS_ZERO | LARGEST, ANSWERED(DISTANCE), 2 * LARGEST },
+    { "the largest figure and infinity", KELUBASHI_VX, LARGEST, INFINITY_WORD, ANSWERED(UNEQUAL), 0 },
+    { "a NaN and itself", KELUBASHI_Z, NAN_WORD, NAN_WORD, ANSWERED(EQUAL), 0 },
+    { "a row refused on the left", KELUBASHI_REFUSAL, 3, 0, KELUBASHI_ROW_LEFT_REFUSED, 0, 0 },
+    { "a row refused on the right", KELUBASHI_REFUSAL, 0, W(100000000), KELUBASHI_ROW_RIGHT_REFUSED, 0, 0 },
+    { "a row refused alike", KELUBASHI_REFUSAL, 32, 32, KELUBASHI_ROW_REFUSED_ALIKE, 0, 0 },
+    { "a row refused with two numbers", KELUBASHI_REFUSAL, 3, 4, KELUBASHI_ROW_REFUSED_UNLIKE, 0, 0 }
+};
+
+enum { COMPARED_ROWS = sizeof COMPARED / sizeof COMPARED[0], COMPARED_BYTES = 16 + 8 * KELUBASHI_ROW * COMPARED_ROWS,
+       TOLD_WORDS = KELUBASHI_COMPARED * COMPARED_ROWS, FIRST_LARGEST = 5 };
+
+static uint8_t left_file[COMPARED_BYTES], right_file[COMPARED_BYTES];
+
+/* A row of the result file, with this in one of its words. */
+static void put_result(const struct compared *at, uint64_t word, uint8_t *bytes)
+{
+    uint64_t row[KELUBASHI_ROW];
+
+    memcpy(row, RESULTS + 2, sizeof row);
+    row[at->word] = word;
+    put_bytes(row, KELUBASHI_ROW, bytes);
+}
+
+static void put_results(void)
+{
+    const uint64_t head[2] = { 1, COMPARED_ROWS };
+    int i;
+
+    put_bytes(head, 2, left_file);
+    put_bytes(head, 2, right_file);
+    for (i = 0; i < COMPARED_ROWS; i++) {
+        put_result(&COMPARED[i], COMPARED[i].left, left_file + 16 + 8 * KELUBASHI_ROW * i);
+        put_result(&COMPARED[i], COMPARED[i].right, right_file + 16 + 8 * KELUBASHI_ROW * i);
+    }
+}
+
+/* What is told of one row. */
+static const char *told_astray(const struct compared *at, const uint64_t *told)
+{
+    uint64_t other = at->row == KELUBASHI_ROW_ANSWERED ? KELUBASHI_FIGURE_DISTANCE : KELUBASHI_FIGURE_UNTOLD;
+    int i;
+
+    if (told[0] != at->row)
+        return astray_number(at->name, "the kind of row", told[0], at->row);
+    for (i = KELUBASHI_X; i < KELUBASHI_ROW; i++) {
+        const uint64_t *of = told + 1 + 2 * (i - KELUBASHI_X);
+        uint64_t kind = i == at->word ? at->figure : other, distance = i == at->word ? at->distance : 0;
+        if (of[0] != kind)
+            return astray_number(at->name, "the kind of a figure", of[0], kind);
+        if (of[1] != distance)
+            return astray_number(at->name, "a distance", of[1], distance);
+    }
+    return NULL;
+}
+
+static const char *const COMPARE_NAMES[KELUBASHI_COMPARE_ANSWER] = {
+    "the refusal", "the side", "the place", "the count of rows", "the row of the largest distance", "its word", "the largest distance"
+};
+
+static const char *comparing(const char *name, size_t right_length, size_t k, const uint64_t *right)
+{
+    uint64_t told[TOLD_WORDS + 1], answer[KELUBASHI_COMPARE_ANSWER], status;
+    const char *wrong;
+    int i, rows;
+
+    lend(told, TOLD_WORDS + 1);
+    lend(answer, KELUBASHI_COMPARE_ANSWER);
+    status = kelubashi1_compare(left_file, COMPARED_BYTES, right_file, right_length, told, k, answer, KELUBASHI_COMPARE_ANSWER);
+    if (status != right[0])
+        return astray_number(name, "the status", status, right[0]);
+    wrong = astray(name, COMPARE_NAMES, answer, right, KELUBASHI_COMPARE_ANSWER, KELUBASHI_COMPARE_ANSWER);
+    rows = status == 0 ? COMPARED_ROWS : 0;
+    for (i = 0; wrong == NULL && i < rows; i++)
+        wrong = told_astray(&COMPARED[i], told + KELUBASHI_COMPARED * i);
+    for (i = KELUBASHI_COMPARED * rows; wrong == NULL && i <= TOLD_WORDS; i++)
+        if (told[i] != LENT)
+            wrong = astray_word(name, "a word that tells of no row", told[i], LENT);
+    return wrong;
+}
+
+static const char *two_files(void)
+{
+    static const uint64_t TOLD[KELUBASHI_COMPARE_ANSWER] = { 0, 0, 0, COMPARED_ROWS, FIRST_LARGEST, KELUBASHI_VZ, 2 * LARGEST };
+    static const uint64_t SHORT[KELUBASHI_COMPARE_ANSWER] = { 21, 1, COMPARED_BYTES - 8, 0, 0, 0, 0 };
+    static const uint64_t NO_ROOM[KELUBASHI_COMPARE_ANSWER] = { 26, 0, TOLD_WORDS, 0, 0, 0, 0 };
+    static const uint64_t COUNTS[KELUBASHI_COMPARE_ANSWER] = { 51, 0, 0, 0, 0, 0, 0 };
+    const uint64_t fewer = COMPARED_ROWS - 1;
+    const char *wrong;
+
+    put_results();
+    if ((wrong = comparing("comparing results", COMPARED_BYTES, TOLD_WORDS + 1, TOLD)) != NULL ||
+        (wrong = comparing("comparing results, the right file a byte short", COMPARED_BYTES - 1, TOLD_WORDS, SHORT)) != NULL ||
+        (wrong = comparing("comparing results, with a run a word short", COMPARED_BYTES, TOLD_WORDS - 1, NO_ROOM)) != NULL)
+        return wrong;
+    put_bytes(&fewer, 1, right_file + 8);
+    return comparing("comparing results, a row fewer on the right", COMPARED_BYTES - 8 * KELUBASHI_ROW, TOLD_WORDS, COUNTS);
+}
+
 /* ---- a list kept beside the states of two centres: appended, refused, withdrawn, and worked out anew ---- */
 
 enum { CENTRES = 2, LISTED = CENTRES * KELUBASHI_ENTRY, LOOKED_AT = 4 };    /* records that are looked at */
@@ -643,5 +761,7 @@ const char *kelubashi_selfcheck(void)
         wrong = files();
     if (wrong == NULL)
         wrong = rows();
+    if (wrong == NULL)
+        wrong = two_files();
     return wrong != NULL ? wrong : changes();
 }

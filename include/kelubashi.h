@@ -16,9 +16,9 @@
 **
 **  No call keeps anything between calls: they are reentrant, and safe in several threads at once. They
 **  need SSE2 and nothing newer of the processor, memset and nothing else of libc, and of the stack at
-**  most 100 bytes (root), 200 (read, summary, append, withdraw), 300 (write), 1,100 (propagate), 1,300
-**  (results), 1,600 (check) or 2,000 (partials). They may raise floating-point flags, as fetestexcept shows
-**  them, and lower none.
+**  most 100 bytes (root), 200 (read, compare, summary, append, withdraw), 300 (write), 1,100 (propagate),
+**  1,300 (results), 1,600 (check) or 2,000 (partials). They may raise floating-point flags, as fetestexcept
+**  shows them, and lower none.
 **
 **  The figures are those of a processor that rounds to nearest and keeps subnormal numbers, as
 **  programs find it when they start. Do not link with -ffast-math, which changes that.
@@ -232,6 +232,43 @@ enum {
 };
 
 /*
+**  The words of kelubashi1_compare's answer in their order, then their count; all are whole numbers. Under
+**  a refusal the last four are 0.
+*/
+enum {
+    KELUBASHI_COMPARE_REFUSAL = 0,  /* the status once more */
+    KELUBASHI_COMPARE_SIDE = 1,     /* with 21, 22, 23 and 25 the file at fault: 0 left, 1 right; else 0 */
+    KELUBASHI_COMPARE_PLACE = 2,    /* with these the byte at fault, with 26 the words needed; else 0 */
+    KELUBASHI_COMPARE_ROWS = 3,     /* rows of each file */
+    KELUBASHI_COMPARE_ROW = 4,      /* row of the first largest distance, from 0; the rows where none is */
+    KELUBASHI_COMPARE_WORD = 5,     /* its word in that row, KELUBASHI_X and on; 11 where none is */
+    KELUBASHI_COMPARE_DISTANCE = 6, /* that distance, in last places; 0 where none is */
+
+    KELUBASHI_COMPARE_ANSWER = 7    /* words of the answer run */
+};
+
+/*
+**  What kelubashi1_compare tells of a row, in 19 words: what the two rows are; then for each of the nine
+**  figures, from x on, what is told of it, and its distance in last places, which is 0 but for
+**  KELUBASHI_FIGURE_DISTANCE.
+*/
+enum {
+    KELUBASHI_ROW_ANSWERED = 0,         /* answered on both sides */
+    KELUBASHI_ROW_LEFT_REFUSED = 1,     /* refused on the left alone */
+    KELUBASHI_ROW_RIGHT_REFUSED = 2,    /* on the right alone */
+    KELUBASHI_ROW_REFUSED_ALIKE = 3,    /* on both sides, with one number */
+    KELUBASHI_ROW_REFUSED_UNLIKE = 4,   /* on both sides, with two numbers */
+
+    KELUBASHI_FIGURE_DISTANCE = 0,      /* finite on both sides: the distance follows */
+    KELUBASHI_FIGURE_EQUAL = 1,         /* not finite on a side, and the same bits on both */
+    KELUBASHI_FIGURE_UNEQUAL = 2,       /* not finite on a side, and other bits on the other */
+    KELUBASHI_FIGURE_UNTOLD = 3,        /* nothing: the row is refused on a side */
+
+    KELUBASHI_COMPARED = 19,            /* words that are told of a row */
+    KELUBASHI_MOST_COMPARED = 28500     /* words that are told of 1,500 rows */
+};
+
+/*
 **  The words of kelubashi1_read's answer in their order, then their count; all are whole numbers.
 **
 **  The place of a section is the byte at which its count stands; its records follow. Where the file is
@@ -362,6 +399,40 @@ uint64_t kelubashi1_results(const uint8_t *file, size_t length, uint8_t *room, s
 KELUBASHI_STATUS
 uint64_t kelubashi1_check(const uint8_t *file, size_t length, uint64_t *verdicts, size_t k,
                           uint64_t *answer, size_t n);
+
+/*
+**  What moved between two result files, figure by figure, in last places.
+**
+**  Given:
+**     left           the bytes of the one result file; any bytes may be given
+**     left_length    their count
+**     right          the bytes of the other
+**     right_length   their count
+**     k              the count of rows, in words: KELUBASHI_COMPARED for each row; KELUBASHI_MOST_COMPARED are
+**                    always enough
+**     n              the count of answer: 7, KELUBASHI_COMPARE_ANSWER
+**
+**  Returned:
+**     rows           19 words for each row, KELUBASHI_COMPARED, as described above, with status 0; words behind
+**                    them are left, and under a refusal all are
+**     answer         refusal, side, place, the rows, then the row, the word and the distance of the first
+**                    largest distance, in the order of the constants above
+**
+**  The distance of two figures in last places is the number of steps from the one to the other on the line of
+**  finite doubles: 1 from a double to the next. Both zeros are one place, so that -0 and +0 have the distance
+**  0. It is never above 18,437,736,874,454,810,622. 0 is a distance too; of those that are as large as the
+**  largest, the first is told, in the order of rows and words.
+**
+**  A row is refused where its first word is not 0, whatever the others hold; its figures are not compared then.
+**  Points are not compared.
+**
+**  Refusals: 21, 22, 23, 25, 26, 51, 60. Each file is walked forward as by kelubashi1_read, the left one first
+**  and whole, and the first fault on the way is told with its side and place; then 51, then 26. The 24 bytes of
+**  a refused element file are refused by 25 at byte 16: they have no rows.
+*/
+KELUBASHI_STATUS
+uint64_t kelubashi1_compare(const uint8_t *left, size_t left_length, const uint8_t *right, size_t right_length,
+                            uint64_t *rows, size_t k, uint64_t *answer, size_t n);
 
 /*
 **  A list of entries beside the states, one entry for each centre: how many states it has and their
@@ -568,15 +639,15 @@ static inline const struct kelubashi_refusal *kelubashi_refusal_of(uint64_t numb
         { 21, "the file ends before a word that is needed, or in it",
               "fetch the file again, or correct a count that is too large" },
         { 22, "the edition is not 1",
-              "look whether it is an element file; if so, use the library of its edition" },
-        { 23, "more than 16 centres, 500 states, 1,500 requests or 400 rows",
+              "look whether it is an element or a result file; if so, use the library of its edition" },
+        { 23, "more than 16 centres, 500 states, 1,500 requests, 1,500 rows of results or 400 rows to check",
               "correct the count, or divide the records over several files" },
         { 24, "a state's centre, or a request's state, is not there",
               "correct that number: they start at 0 and stay below the section's count" },
         { 25, "bytes are left after the last section or row",
               "cut the file there, or correct a count that is too small" },
-        { 26, "the room is too small for the file, or the run for the verdicts",
-              "lend as many bytes, or words for verdicts, as the answer says, and call again" },
+        { 26, "the room is too small for the file, or the run for what is told of each row",
+              "lend as many bytes, or words of the run, as the answer says, and call again" },
         { 27, "a run is not whole records; or of a run of states: not 500, more than 500 in use, or not one to append",
               "give words as the count: 8 for each state, 2 for each request, 4,000 for a run of states, 8 for one to append" },
         { 31, "mu is infinite or a NaN",
@@ -599,8 +670,10 @@ static inline const struct kelubashi_refusal *kelubashi_refusal_of(uint64_t numb
               "lend 4 words for each centre, and give as many as their count" },
         { 42, "500 states are in use already, or the state to withdraw is not in use",
               "withdraw a state first, or give the number of one that is there, from 0" },
+        { 51, "the two result files do not have as many rows as one another",
+              "compare the results of one element file, and look at which file each was made of" },
         { 60, "the answer run is not as long as the answer; nothing is written",
-              "lend 15 words (1 for the root, 8 to read, 2 for the other calls with files or states), and give their count" },
+              "lend 15 words (1 for the root, 8 to read, 7 to compare, 2 for the other calls with files or states), and give their count" },
         { 0, "a number that this edition does not have",
              "use a library and a header of one edition" }
     };

@@ -308,16 +308,6 @@ void aims_see_check(const struct file *f, size_t k)
 
 /* ---- what is told ---- */
 
-static uint64_t rarest(const uint64_t *counts, size_t count)
-{
-    uint64_t least = counts[0];
-
-    while (--count > 0)
-        if (counts[count] < least)
-            least = counts[count];
-    return least;
-}
-
 int aims_rows_tell(void)
 {
     static const int numbers[] = { 0, 31, 32, 33, 34, 35, 36, 37, 38, 3, 4 };

@@ -129,6 +129,8 @@ void change(enum kind kind, struct file *f, const struct file *other)
             change_roster(f, other);
         else if (kind == ROWS)
             change_rows(f, other);
+        else if (kind == PAIRS)
+            change_pair(f, other);
         else
             change_bytes(kind, f, other);
     } while (one_in(2));

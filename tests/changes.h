@@ -18,6 +18,9 @@ void change_roster(struct file *input, const struct file *other);
 /* One change of a file of rows: of its count, its end, or a row. */
 void change_rows(struct file *input, const struct file *other);
 
+/* One change of a pair of result files: of a side alone, or of rows that stand on both. */
+void change_pair(struct file *input, const struct file *other);
+
 /* Some bytes fewer at the end of a file, or more; and the beginning of one with the end of the other. */
 void change_end(struct file *input);
 void splice(struct file *input, const struct file *other);

@@ -56,10 +56,10 @@ writes_nothing
 kelubashi 0 --version
 shows 'kelubashi, edition 1'
 kelubashi 0 --help
-for each in results show elements read centres check rows state selfcheck; do
+for each in results show elements read centres check rows compare state selfcheck; do
     shows "  kelubashi $each "
 done
-for each in results show elements read centres check rows state selfcheck; do
+for each in results show elements read centres check rows compare state selfcheck; do
     kelubashi 0 $each --help
     shows "usage: kelubashi $each"
     shows '  2  not done: cannot read, write, or understand the call'
@@ -478,6 +478,7 @@ line() {
 word='is no number of a record: those are 0, 1, 2 .., and have no sign'
 state='0 1 0 0 0 0 0'
 there="refused (24): a state's centre, or a request's state, is not there; correct that number: they start at 0 and stay below the section's count"
+beyond='refused (23): more than 16 centres, 500 states, 1,500 requests, 1,500 rows of results or 400 rows to check; correct the count, or divide the records over several files'
 line 'center 1\n' "1: 'center' is no name of a record: a line starts with centre, state or request"
 line '# one\n\ncentre\n' '3: a centre has 1 words behind its name, and here are 0'
 line "centre 1\nstate 0 0 1 0 0 0 0\n" '2: a state has 8 words behind its name, and here are 7'
@@ -500,9 +501,9 @@ line 'centre 1\ncentre \0001\n' '2: has a NUL byte: write the listing as plain t
 line '# a \000 in a comment\n' '1: has a NUL byte: write the listing as plain text'
 line 'centre \0331\n' "1: '?1' is no figure"
 line "centre 1\n# $(head -c 499 /dev/zero | tr '\0' x)\n" '2: is longer than 500 bytes: divide it, or shorten its comment'
-line "$(yes 'centre 1\n' | head -n 17 | tr -d '\n')" '17: refused (23): more than 16 centres, 500 states, 1,500 requests or 400 rows; correct the count, or divide the records over several files'
-line "$(yes 'centre 1\n' | head -n 40 | tr -d '\n')" '17: refused (23): more than 16 centres, 500 states, 1,500 requests or 400 rows; correct the count, or divide the records over several files'
-line "centre 1\n$(yes "state 0 $state\n" | head -n 501 | tr -d '\n')" '502: refused (23): more than 16 centres, 500 states, 1,500 requests or 400 rows; correct the count, or divide the records over several files'
+line "$(yes 'centre 1\n' | head -n 17 | tr -d '\n')" "17: $beyond"
+line "$(yes 'centre 1\n' | head -n 40 | tr -d '\n')" "17: $beyond"
+line "centre 1\n$(yes "state 0 $state\n" | head -n 501 | tr -d '\n')" "502: $beyond"
 unread "kelubashi elements: /dev/zero: is no listing: it is longer than 4194304 bytes" elements /dev/zero
 unread "kelubashi elements: '$room/good.txt' is one word too many: usage: kelubashi elements LISTING [-o ELEMENTS]" elements "$room/good.txt" "$room/good.txt"
 

@@ -44,6 +44,18 @@ fault() {
     held
 }
 
+# From here on it is run in the folder $1; and then in this one again.
+enter() {
+    mine=$command
+    command=$(for word in $command; do if [ -f "$word" ]; then printf '%s ' "$(realpath "$word")"; else printf '%s ' "$word"; fi; done)
+    cd "$1" || exit
+}
+
+leave() {
+    cd "$here" || exit
+    command=$mine
+}
+
 held() {
     [ $status -eq "$wanted" ] || fail "$asked: the status is $status and not $wanted; it says: $(cat "$room/said")"
     cases=$((cases + 1))
@@ -84,6 +96,32 @@ mkdir "$room/out"
 echo 'the old file' >"$room/kept"
 cp "$room/kept" "$room/out/file"
 mkfifo "$room/fifo"
+
+# ---- Files made of words, each sixteen hexadecimal digits.
+
+# These words as bytes, the lowest first.
+bytes() {
+    # shellcheck disable=SC2059 # bytes
+    printf "$(printf '%s\n' "$@" | awk '{
+        for (i = 15; i > 0; i -= 2)
+            printf "\\%03o", 16 * (index("0123456789abcdef", substr($0, i, 1)) - 1) + index("0123456789abcdef", substr($0, i + 1, 1)) - 1
+    }')"
+}
+
+# The row $1 with a word at each place of $2, from 0, in the place of what it has: PLACE=WORD ..
+with() {
+    # shellcheck disable=SC2086 # a list of words
+    printf '%s\n' $1 | awk -v changes="$2" '
+        BEGIN { count = split(changes, each, " "); for (i = 1; i <= count; i++) { split(each[i], pair, "="); changed[pair[1] + 0] = pair[2] } }
+        { at = NR - 1; print (at in changed) ? changed[at] : $0 }' | tr '\n' ' '
+}
+
+# shellcheck disable=SC2034 # used where this is read
+zero=0000000000000000 minus_zero=8000000000000000 least=0000000000000001
+# shellcheck disable=SC2034
+one=3ff0000000000000 minus_one=bff0000000000000 above_one=3ff0000000000001 below_one=3fefffffffffffff
+# shellcheck disable=SC2034
+infinity=7ff0000000000000 nan=7ff8000000000000
 
 # ---- What is not done.
 

@@ -1,6 +1,6 @@
 /*
 **  Faults of a machine, for the command: linked with --wrap, these stand before the system's calls, and
-**  two calls of the library's; the word in the environment's FAULT says which of them fails, and how.
+**  three calls of the library's; the word in the environment's FAULT says which of them fails, and how.
 */
 #include "kelubashi.h"
 
@@ -19,6 +19,8 @@ ssize_t __real_read(int file, void *bytes, size_t length);
 uint64_t __real_kelubashi1_summary(const uint64_t *states, size_t words, uint64_t count, uint64_t centres,
                                    uint64_t *list, size_t k, uint64_t *answer, size_t n);
 uint64_t __real_kelubashi1_check(const uint8_t *file, size_t length, uint64_t *verdicts, size_t k, uint64_t *answer, size_t n);
+uint64_t __real_kelubashi1_compare(const uint8_t *left, size_t left_length, const uint8_t *right, size_t right_length,
+                                   uint64_t *rows, size_t k, uint64_t *answer, size_t n);
 
 int __wrap_rename(const char *from, const char *to);
 int __wrap_fsync(int file);
@@ -29,6 +31,8 @@ ssize_t __wrap_read(int file, void *bytes, size_t length);
 uint64_t __wrap_kelubashi1_summary(const uint64_t *states, size_t words, uint64_t count, uint64_t centres,
                                    uint64_t *list, size_t k, uint64_t *answer, size_t n);
 uint64_t __wrap_kelubashi1_check(const uint8_t *file, size_t length, uint64_t *verdicts, size_t k, uint64_t *answer, size_t n);
+uint64_t __wrap_kelubashi1_compare(const uint8_t *left, size_t left_length, const uint8_t *right, size_t right_length,
+                                   uint64_t *rows, size_t k, uint64_t *answer, size_t n);
 
 static int reads = 0;   /* calls of read so far */
 
@@ -118,4 +122,18 @@ uint64_t __wrap_kelubashi1_check(const uint8_t *file, size_t length, uint64_t *v
     if (refusal == 0 && fault("accepts none") && reads > 0)
         memset(verdicts, 0, (size_t)answer[1] * sizeof *verdicts);
     return refusal;
+}
+
+/*
+**  A library that finds no room for the rows, or an answer run of another length, once files have been read; or such a run from
+**  the start on, which the self-check tells.
+*/
+uint64_t __wrap_kelubashi1_compare(const uint8_t *left, size_t left_length, const uint8_t *right, size_t right_length,
+                                   uint64_t *rows, size_t k, uint64_t *answer, size_t n)
+{
+    if (fault("unsound") || (fault("no answer") && reads > 0))
+        n--;
+    if (fault("no room for rows") && reads > 0)
+        k = 0;
+    return __real_kelubashi1_compare(left, left_length, right, right_length, rows, k, answer, n);
 }

@@ -5,16 +5,7 @@ set -eu
 cd "$(dirname "$0")/.."
 . tests/command_calls.sh
 
-# ---- Rows made of words, each sixteen hexadecimal digits.
-
-# These words as bytes, the lowest first.
-bytes() {
-    # shellcheck disable=SC2059 # bytes
-    printf "$(printf '%s\n' "$@" | awk '{
-        for (i = 15; i > 0; i -= 2)
-            printf "\\%03o", 16 * (index("0123456789abcdef", substr($0, i, 1)) - 1) + index("0123456789abcdef", substr($0, i + 1, 1)) - 1
-    }')"
-}
+# ---- Rows made of words.
 
 # The file $1 of these rows, each a list of eighteen words.
 rows() {
@@ -23,18 +14,6 @@ rows() {
     # shellcheck disable=SC2048,SC2086 # lists of words
     bytes "$(printf %016x $#)" $* >"$made"
 }
-
-# The row $1 with a word at each place of $2, from 0, in the place of what it has: PLACE=WORD ..
-with() {
-    # shellcheck disable=SC2086 # a list of words
-    printf '%s\n' $1 | awk -v changes="$2" '
-        BEGIN { count = split(changes, each, " "); for (i = 1; i <= count; i++) { split(each[i], pair, "="); changed[pair[1] + 0] = pair[2] } }
-        { at = NR - 1; print (at in changed) ? changed[at] : $0 }' | tr '\n' ' '
-}
-
-zero=0000000000000000 minus_zero=8000000000000000 least=0000000000000001
-one=3ff0000000000000 minus_one=bff0000000000000 above_one=3ff0000000000001 below_one=3fefffffffffffff
-infinity=7ff0000000000000 nan=7ff8000000000000
 
 # P10: mu 0, position (1, 0, 0), at rest, tau 1; psi is 1, and the figures are those of document 01. The rules give the same figures for P11,
 # where psi is -1, and for a tau of either zero, where it is +0.
@@ -414,14 +393,11 @@ says ''
 [ "$(find "$room/it's a day" -type f | wc -l)" -eq 5 ] || fail "the commands leave other files: $(ls "$room/it's a day")"
 
 # An element file whose name begins with a minus: the command is run in its folder.
-there=$(for word in $command; do if [ -f "$word" ]; then printf '%s ' "$(realpath "$word")"; else printf '%s ' "$word"; fi; done)
-mine=$command command=$there
 cp "$room/many" "$room/-many"
-cd "$room"
+enter "$room"
 kelubashi 1 rows -q -o minus -- -many
 says 'kelubashi rows: -many: requests left over: 1100: a file holds 400 rows: make the next with: kelubashi rows --from 400 ./-many -o minus.400'
-cd "$here"
-command=$mine
+leave
 
 # ---- rows: not done, and faults.
 

@@ -20,7 +20,7 @@
 #include <string.h>
 #include <sys/stat.h>
 
-enum { USUAL = 6000, NAME = 200, TEXT = 1 << 20 };
+enum { USUAL = 7500, NAME = 200, TEXT = 1 << 20 };
 
 int __wrap_fsync(int file);
 
@@ -31,7 +31,7 @@ int __wrap_fsync(int file)
 }
 
 static FILE *report, *nowhere;
-static char given_name[NAME], other_name[NAME], written_name[NAME];
+static char given_name[NAME], other_name[NAME], third_name[NAME], written_name[NAME];
 static uint64_t number_now;
 static uint64_t well, refused, not_done;
 
@@ -66,31 +66,46 @@ static size_t take_written(uint8_t *bytes, size_t size)
 
 /* ---- a call, and what becomes of it ---- */
 
-/* Runs a subcommand, with what it prints and says going nowhere. */
-static enum status run(const struct subcommand *subcommand, int writes, int any_bits)
+/* A call with so many of the given files. */
+static struct call call_with(int count)
 {
-    char *operands[2];
+    static char *operands[3];
     struct call call;
-    enum status status;
-    FILE *output = stdout, *error = stderr;
 
     operands[0] = given_name;
     operands[1] = other_name;
+    operands[2] = third_name;
     memset(&call, 0, sizeof call);
     call.operands = operands;
-    call.operand_count = subcommand->operands;
-    call.output = writes ? written_name : NULL;
-    call.any_bits = any_bits;
-    remove(written_name);
+    call.operand_count = count;
+    return call;
+}
+
+/* Runs a subcommand, with what it prints and says going nowhere. */
+static enum status run_call(const struct subcommand *subcommand, const struct call *call)
+{
+    enum status status;
+    FILE *output = stdout, *error = stderr;
+
     stdout = nowhere;
     stderr = nowhere;
-    status = subcommand->run(&call);
+    status = subcommand->run(call);
     stdout = output;
     stderr = error;
     well += status == ALL_WELL;
     refused += status == SOMETHING_AMISS;
     not_done += status == NOT_DONE;
     return status;
+}
+
+static enum status run(const struct subcommand *subcommand, int writes, int any_bits)
+{
+    struct call call = call_with(subcommand->operands);
+
+    call.output = writes ? written_name : NULL;
+    call.any_bits = any_bits;
+    remove(written_name);
+    return run_call(subcommand, &call);
 }
 
 static void hold(int good, const char *what)
@@ -203,6 +218,96 @@ static void try_show(uint64_t number)
     wanted = length == right_length && memcmp(results, right, length) == 0 ? status_of(right, right_length) : NOT_DONE;
     status = run(&show_subcommand, 0, 0);
     hold(status == wanted, "show ends otherwise");
+}
+
+/* ---- result files compared ---- */
+
+/* What compare has to answer to a reference and another file: the second program's comparison, row by row. */
+static enum status moved_since(const uint8_t *reference, size_t reference_length, const uint8_t *results, size_t length)
+{
+    static uint64_t told[KELUBASHI_MOST_COMPARED];
+    uint64_t answer[KELUBASHI_COMPARE_ANSWER];
+    size_t row, i;
+
+    if (second_compare(reference, reference_length, results, length, told, KELUBASHI_MOST_COMPARED, answer, KELUBASHI_COMPARE_ANSWER) != 0)
+        return NOT_DONE;
+    for (row = 0; row < answer[KELUBASHI_COMPARE_ROWS]; row++) {
+        const uint64_t *of_row = told + row * KELUBASHI_COMPARED;
+
+        if (of_row[0] != KELUBASHI_ROW_ANSWERED && of_row[0] != KELUBASHI_ROW_REFUSED_ALIKE)
+            return SOMETHING_AMISS;
+        for (i = 1; i < KELUBASHI_COMPARED; i += 2)
+            if (of_row[i] == KELUBASHI_FIGURE_UNEQUAL || of_row[i + 1] != 0)
+                return SOMETHING_AMISS;
+    }
+    return ALL_WELL;
+}
+
+/* Changes some words of the rows: a place on, another sign, no number, infinite, or in the place of the first a refusal. */
+static void move_words(uint8_t *bytes, size_t length)
+{
+    int many;
+
+    for (many = any_from(0, 5); many > 0 && length >= 16 + 88; many--) {
+        uint8_t *row = bytes + 16 + 88 * any_below((length - 16) / 88), *word = row + 8 * any_below(11);
+
+        switch (any_below(5)) {
+        case 0:
+            word[0] ^= 1;
+            break;
+        case 1:
+            word[7] ^= 128;
+            break;
+        case 2:
+            word[7] |= 127;
+            word[6] |= 240;
+            break;
+        case 3:
+            memset(word, 0, 8);
+            word[7] = (uint8_t)(128 * any_below(2));
+            break;
+        default:
+            memset(row, 0, 8);
+            row[0] = (uint8_t)any_below(9);
+            break;
+        }
+    }
+}
+
+/* A result file beside the right one: the same, changed in some words, or damaged. */
+static size_t give_results(const char *name, uint8_t *bytes)
+{
+    size_t length = right_length;
+
+    memcpy(bytes, right, right_length);
+    if (!one_in(3))
+        move_words(bytes, length);
+    if (one_in(4))
+        length = damage(bytes, length);
+    put_file(name, bytes, length);
+    return length;
+}
+
+/* One file or two against a reference, with the options that there are. */
+static void try_compare(uint64_t number)
+{
+    static uint8_t reference[KELUBASHI_MOST_RESULTS + 8], results[KELUBASHI_MOST_RESULTS + 8], third[KELUBASHI_MOST_RESULTS + 8];
+    struct call call = call_with(2 + (int)any_below(2));
+    size_t reference_length, length, third_length;
+    enum status wanted, other, status;
+
+    give_elements(number);
+    reference_length = give_results(given_name, reference);
+    length = give_results(other_name, results);
+    third_length = give_results(third_name, third);
+    call.quiet = one_in(4);
+    call.all = call.operand_count == 2 && one_in(3);
+    wanted = moved_since(reference, reference_length, results, length);
+    other = moved_since(reference, reference_length, third, third_length);
+    if (call.operand_count == 3 && other > wanted)
+        wanted = other;     /* the statuses grow with the trouble */
+    status = run_call(&compare_subcommand, &call);
+    hold(status == wanted, "compare ends otherwise");
 }
 
 /* ---- files of rows ---- */
@@ -386,18 +491,21 @@ static void try_listing(uint64_t number)
 static void try_one(uint64_t number)
 {
     number_now = number;
-    switch (number % 4) {
+    switch (number % 5) {
     case 0:
-        try_listing(number / 4);
+        try_listing(number / 5);
         break;
     case 1:
-        try_elements(number / 4);
+        try_elements(number / 5);
         break;
     case 2:
-        try_show(number / 4);
+        try_show(number / 5);
+        break;
+    case 3:
+        try_compare(number / 5);
         break;
     default:
-        try_rows(number / 4);
+        try_rows(number / 5);
         break;
     }
 }
@@ -419,6 +527,7 @@ int main(int count, char **words)
     }
     snprintf(given_name, NAME, "%s/given", words[1]);
     snprintf(other_name, NAME, "%s/other", words[1]);
+    snprintf(third_name, NAME, "%s/third", words[1]);
     snprintf(written_name, NAME, "%s/written", words[1]);
     drive_own(progress, repeat);
     drive_start("damaged_command", USUAL, count - 1, words + 1);

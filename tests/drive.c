@@ -219,6 +219,16 @@ int aims_tell_all(const char *const *names, const uint64_t *hit, size_t count)
     return missed;
 }
 
+uint64_t rarest(const uint64_t *counts, size_t count)
+{
+    uint64_t least = counts[0];
+
+    while (--count > 0)
+        if (counts[count] < least)
+            least = counts[count];
+    return least;
+}
+
 void words_tell(const char *name, const uint64_t *run, size_t words)
 {
     size_t i;

@@ -64,6 +64,9 @@ int numbers_tell(const char *what, const uint64_t *met, const int *numbers, size
 /* Prints how often each aim of the families was hit; answers how many never were. */
 int aims_tell_all(const char *const *names, const uint64_t *hit, size_t count);
 
+/* The least of some counts, for an aim that stands for several. */
+uint64_t rarest(const uint64_t *counts, size_t count);
+
 /* Prints a run of words, in full. */
 void words_tell(const char *name, const uint64_t *run, size_t words);
 

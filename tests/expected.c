@@ -6,22 +6,24 @@
 #include <string.h>
 
 #define EDGE 8     /* bytes before and behind a room */
-#define BEYOND 3     /* words of a run beyond the verdicts */
+#define BEYOND 3     /* words of a run beyond what is written */
 #define MOST_VERDICTS (KELUBASHI_MOST_CHECK_ROWS + BEYOND)
+#define MOST_TOLD (KELUBASHI_MOST_COMPARED + BEYOND)
 
 /* What a call is lent, with a word or some bytes on either side. */
 struct memory {
     uint64_t answer[1 + KELUBASHI_READ_ANSWER + 1];
     uint8_t room[EDGE + MOST_ROOM + EDGE];
-    uint64_t verdicts[1 + MOST_VERDICTS + 1];
+    uint64_t run[1 + MOST_TOLD + 1];     /* for verdicts, or for what is told of rows */
 };
 
-struct file file;
+struct file file, right_file;
 struct runs runs;
 unsigned calls;
 
 static struct file results;
 static struct memory lent, right, filled;     /* the first two are filled like the third; what has to be written is then put to the second */
+static size_t room_bytes, run_words;     /* of these, what a call is lent, and the edges */
 
 /* ---- what is lent, and what has to be there afterwards ---- */
 
@@ -38,17 +40,27 @@ static void fill(struct memory *memory)
     size_t i;
 
     fill_words(memory->answer, sizeof memory->answer / sizeof memory->answer[0]);
-    fill_words(memory->verdicts, sizeof memory->verdicts / sizeof memory->verdicts[0]);
+    fill_words(memory->run, sizeof memory->run / sizeof memory->run[0]);
     for (i = 0; i < sizeof memory->room; i++)
         memory->room[i] = (uint8_t)(0xA5 + i % 251);
 }
 
-static void lend(void)
+static void fill_again(struct memory *memory)
+{
+    memcpy(memory->answer, filled.answer, sizeof memory->answer);
+    memcpy(memory->room, filled.room, room_bytes);
+    memcpy(memory->run, filled.run, run_words * sizeof *memory->run);
+}
+
+/* A room of so many bytes, and a run of so many words. */
+static void lend(size_t size, size_t k)
 {
     if (calls++ == 0)
         fill(&filled);
-    lent = filled;
-    right = filled;
+    room_bytes = EDGE + size + EDGE;
+    run_words = 1 + k + 1;
+    fill_again(&lent);
+    fill_again(&right);
 }
 
 /* Ends the test with what differs. */
@@ -62,21 +74,22 @@ static void differs(const char *name, const char *call, const char *what, long p
 /* The status, and all that was lent, from edge to edge. */
 static void expect(const char *name, const char *call, uint64_t status, uint64_t expected)
 {
-    long i;
+    size_t i;
 
     if (status != expected)
         differs(name, call, "status, place", 0, status, expected);
-    if (memcmp(&lent, &right, sizeof lent) == 0)
+    if (memcmp(lent.answer, right.answer, sizeof lent.answer) == 0 && memcmp(lent.room, right.room, room_bytes) == 0
+        && memcmp(lent.run, right.run, run_words * sizeof *lent.run) == 0)
         return;
-    for (i = -1; i <= KELUBASHI_READ_ANSWER; i++)
-        if (lent.answer[1 + i] != right.answer[1 + i])
-            differs(name, call, "answer, word", i, lent.answer[1 + i], right.answer[1 + i]);
-    for (i = -EDGE; i < MOST_ROOM + EDGE; i++)
-        if (lent.room[EDGE + i] != right.room[EDGE + i])
-            differs(name, call, "room, byte", i, lent.room[EDGE + i], right.room[EDGE + i]);
-    for (i = -1; i <= MOST_VERDICTS; i++)
-        if (lent.verdicts[1 + i] != right.verdicts[1 + i])
-            differs(name, call, "verdict of row", i, lent.verdicts[1 + i], right.verdicts[1 + i]);
+    for (i = 0; i < sizeof lent.answer / sizeof *lent.answer; i++)
+        if (lent.answer[i] != right.answer[i])
+            differs(name, call, "answer, word", (long)i - 1, lent.answer[i], right.answer[i]);
+    for (i = 0; i < room_bytes; i++)
+        if (lent.room[i] != right.room[i])
+            differs(name, call, "room, byte", (long)i - EDGE, lent.room[i], right.room[i]);
+    for (i = 0; i < run_words; i++)
+        if (lent.run[i] != right.run[i])
+            differs(name, call, "run, word", (long)i - 1, lent.run[i], right.run[i]);
 }
 
 /* ---- files of words ---- */
@@ -133,9 +146,9 @@ void runs_of(size_t centre_words, size_t state_words, size_t request_words)
 
 /* ---- the calls; a count of 0 comes with a null pointer ---- */
 
-static const uint8_t *file_bytes(void)
+static const uint8_t *bytes_of(const struct file *f)
 {
-    return file.length ? file.bytes : NULL;
+    return f->length ? f->bytes : NULL;
 }
 
 static const uint64_t *run_of(const uint64_t *run, size_t words)
@@ -155,13 +168,13 @@ static uint64_t *answer_of(size_t n)
 
 static uint64_t read_file(size_t n)
 {
-    lend();
-    return kelubashi1_read(file_bytes(), file.length, answer_of(n), n);
+    lend(0, 0);
+    return kelubashi1_read(bytes_of(&file), file.length, answer_of(n), n);
 }
 
 static uint64_t write_runs(size_t size, size_t n)
 {
-    lend();
+    lend(size, 0);
     return kelubashi1_write(run_of(runs.centres, runs.centre_words), runs.centre_words,
                             run_of(runs.states, runs.state_words), runs.state_words,
                             run_of(runs.requests, runs.request_words), runs.request_words,
@@ -170,14 +183,25 @@ static uint64_t write_runs(size_t size, size_t n)
 
 static uint64_t write_results(size_t size, size_t n)
 {
-    lend();
-    return kelubashi1_results(file_bytes(), file.length, room_of(size), size, answer_of(n), n);
+    lend(size, 0);
+    return kelubashi1_results(bytes_of(&file), file.length, room_of(size), size, answer_of(n), n);
+}
+
+static uint64_t *words_for(size_t k)
+{
+    return k ? lent.run + 1 : NULL;
 }
 
 static uint64_t check_rows(size_t k, size_t n)
 {
-    lend();
-    return kelubashi1_check(file_bytes(), file.length, k ? lent.verdicts + 1 : NULL, k, answer_of(n), n);
+    lend(0, k);
+    return kelubashi1_check(bytes_of(&file), file.length, words_for(k), k, answer_of(n), n);
+}
+
+static uint64_t compare_files(size_t k, size_t n)
+{
+    lend(0, k);
+    return kelubashi1_compare(bytes_of(&file), file.length, bytes_of(&right_file), right_file.length, words_for(k), k, answer_of(n), n);
 }
 
 /* ---- what is expected ---- */
@@ -245,7 +269,7 @@ static void checks(const char *name, size_t k, uint64_t number, uint64_t place, 
     right.answer[1 + KELUBASHI_CHECK_REFUSAL] = number;
     right.answer[1 + KELUBASHI_CHECK_PLACE] = place;
     if (number == 0)
-        memcpy(right.verdicts + 1, verdicts, (size_t)place * sizeof *verdicts);
+        memcpy(right.run + 1, verdicts, (size_t)place * sizeof *verdicts);
     expect(name, "check", status, number);
 }
 
@@ -265,6 +289,56 @@ void refuses_rows(const char *name, uint64_t number, uint64_t place)
     checks(name, MOST_VERDICTS, number, place, NULL);
 }
 
+/* With a run of this count: this answer and, where its number is 0, what is told of its rows. */
+static void compares_in(const char *name, size_t k, const uint64_t *answer, const uint64_t *told)
+{
+    uint64_t status = compare_files(k, KELUBASHI_COMPARE_ANSWER);
+
+    memcpy(right.answer + 1, answer, KELUBASHI_COMPARE_ANSWER * sizeof *answer);
+    if (answer[KELUBASHI_COMPARE_REFUSAL] == 0)
+        memcpy(right.run + 1, told, KELUBASHI_COMPARED * (size_t)answer[KELUBASHI_COMPARE_ROWS] * sizeof *told);
+    expect(name, "compare", status, answer[KELUBASHI_COMPARE_REFUSAL]);
+}
+
+static void refuses_in(const char *name, size_t k, uint64_t number, uint64_t side, uint64_t place)
+{
+    const uint64_t answer[KELUBASHI_COMPARE_ANSWER] = {
+        [KELUBASHI_COMPARE_REFUSAL] = number, [KELUBASHI_COMPARE_SIDE] = side, [KELUBASHI_COMPARE_PLACE] = place
+    };
+
+    compares_in(name, k, answer, NULL);
+}
+
+void compares(const char *name, const uint64_t *told, size_t rows, const uint64_t largest[3])
+{
+    const uint64_t answer[KELUBASHI_COMPARE_ANSWER] = {
+        [KELUBASHI_COMPARE_ROWS] = rows, [KELUBASHI_COMPARE_ROW] = largest[0], [KELUBASHI_COMPARE_WORD] = largest[1],
+        [KELUBASHI_COMPARE_DISTANCE] = largest[2]
+    };
+    size_t words = KELUBASHI_COMPARED * rows;
+
+    if (rows > 0) {
+        refuses_in(name, 0, 26, 0, words);
+        refuses_in(name, words - 1, 26, 0, words);
+    }
+    compares_in(name, words, answer, told);
+    compares_in(name, words + BEYOND, answer, told);
+}
+
+/* Words that would do for all rows that either file has room for. */
+static size_t enough(void)
+{
+    size_t longer = file.length > right_file.length ? file.length : right_file.length, rows = longer / (8 * KELUBASHI_ROW);
+
+    return rows < KELUBASHI_MOST_REQUESTS ? KELUBASHI_COMPARED * rows : KELUBASHI_MOST_COMPARED;
+}
+
+void refuses_pair(const char *name, uint64_t number, uint64_t side, uint64_t place)
+{
+    refuses_in(name, 0, number, side, place);
+    refuses_in(name, enough() + BEYOND, number, side, place);
+}
+
 void refuses_count(const char *name, size_t n)
 {
     if (n != KELUBASHI_READ_ANSWER)
@@ -280,5 +354,9 @@ void refuses_count(const char *name, size_t n)
     if (n != KELUBASHI_CHECK_ANSWER) {
         expect(name, "check", check_rows(MOST_VERDICTS, n), 60);
         expect(name, "check in no run", check_rows(0, n), 60);
+    }
+    if (n != KELUBASHI_COMPARE_ANSWER) {
+        expect(name, "compare", compare_files(MOST_TOLD, n), 60);
+        expect(name, "compare in no run", compare_files(0, n), 60);
     }
 }

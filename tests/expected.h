@@ -12,7 +12,7 @@
 #define MOST_ROOM (KELUBASHI_MOST_RESULTS + TAIL)
 
 struct file {
-    uint8_t bytes[KELUBASHI_MOST_RESULTS];
+    uint8_t bytes[KELUBASHI_MOST_RESULTS + 8 * KELUBASHI_ROW + 8];     /* a row and a word more than the longest */
     size_t length;
 };
 
@@ -27,8 +27,8 @@ struct runs {
 /* The test's own name, which it has to give. */
 extern const char *const test_name;
 
-/* What the calls are asked with; and how many there were. */
-extern struct file file;
+/* What the calls are asked with, two files where they are compared; and how many there were. */
+extern struct file file, right_file;
 extern struct runs runs;
 extern unsigned calls;
 
@@ -59,6 +59,13 @@ void judges(const char *name, const uint64_t *verdicts, size_t rows);
 
 /* It is refused, whatever run is lent, which stays. */
 void refuses_rows(const char *name, uint64_t number, uint64_t place);
+
+/* The file and the right one are compared as this tells, KELUBASHI_COMPARED words of each row, with this row, word and distance for the largest: not
+   told in a run a word short or in none, told in others, whose tails stay. */
+void compares(const char *name, const uint64_t *told, size_t rows, const uint64_t largest[3]);
+
+/* They are refused, whatever run is lent, which stays. */
+void refuses_pair(const char *name, uint64_t number, uint64_t side, uint64_t place);
 
 /* An answer run of this count, where it is another than the call's, is 60, and nothing is written. */
 void refuses_count(const char *name, size_t n);

@@ -27,7 +27,8 @@ static const double GIVEN[ORBITS][8] = {
 struct results {
     uint64_t answer[KELUBASHI_ANSWER], run[KELUBASHI_PARTIALS], read[KELUBASHI_READ_ANSWER];
     uint64_t root, written[2], answered[2], checked[2], verdict, changed[6], list[KELUBASHI_ENTRY];
-    uint8_t file[200], results[200], rows[ONE_ROW];
+    uint64_t compared[KELUBASHI_COMPARE_ANSWER], told[KELUBASHI_COMPARED];
+    uint8_t file[200], results[200], moved[ONE_RESULT], rows[ONE_ROW];
 };
 
 static void fail(const char *what)
@@ -36,7 +37,7 @@ static void fail(const char *what)
     exit(EXIT_FAILURE);
 }
 
-/* All ten calls on one orbit; every byte that they leave. */
+/* All eleven calls on one orbit; every byte that they leave. */
 static void ask(const double *g, struct results *r)
 {
     uint64_t w[8], state[KELUBASHI_STATE] = { 0 }, request[KELUBASHI_REQUEST] = { 0, 0 }, refusals;
@@ -58,6 +59,8 @@ static void ask(const double *g, struct results *r)
     refusals += kelubashi1_results(r->file, 120, r->results, sizeof r->results, r->answered, 2);
     one_row(w, r->answer, r->rows);
     refusals += kelubashi1_check(r->rows, sizeof r->rows, &r->verdict, 1, r->checked, 2);
+    move_results(r->results, r->moved);
+    refusals += kelubashi1_compare(r->results, ONE_RESULT, r->moved, ONE_RESULT, r->told, KELUBASHI_COMPARED, r->compared, KELUBASHI_COMPARE_ANSWER);
     refusals += kelubashi1_append(state, KELUBASHI_STATE, states, KELUBASHI_STATE_RUN, 1, 1, r->list, KELUBASHI_ENTRY, r->changed, 2);
     refusals += kelubashi1_withdraw(0, states, KELUBASHI_STATE_RUN, 2, 1, r->list, KELUBASHI_ENTRY, r->changed + 2, 2);
     refusals += kelubashi1_summary(states, KELUBASHI_STATE_RUN, 1, 1, r->list, KELUBASHI_ENTRY, r->changed + 4, 2);

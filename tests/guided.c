@@ -7,10 +7,12 @@
 **     guided sections NAME               sections again, from a file that this program wrote
 **     guided roster NAME                 a roster and its calls again, from such a file
 **     guided rows NAME                   one file of rows again
+**     guided pair NAME                   a pair of result files again, from a file that this program wrote
 **
 **  Inputs by which the second program goes a way that it never went before are kept, and changed into others.
-**  They begin with the families of the other four comparisons, and each is asked and compared as there.
+**  They begin with the families of the other five comparisons, and each is asked and compared as there.
 */
+#include "ask_compare.h"
 #include "ask_file.h"
 #include "ask_rows.h"
 #include "ask_state.h"
@@ -33,13 +35,14 @@
 #define FRESH 2     /* one in so many is so later too; with 1 there is nothing else */
 #endif
 
-static const char *const names[KINDS] = { "state", "file", "sections", "roster", "rows" };
+static const char *const names[KINDS] = { "state", "file", "sections", "roster", "rows", "pair" };
 
 static const char *program;
 static enum kind kind;
 static struct file input, other;
 static struct sections sections;
 static struct roster roster;
+static struct pair pair;
 
 /* ---- one input ---- */
 
@@ -76,8 +79,12 @@ static void ask(const char *family)
         unpack_roster(&input, &roster);
         ask_roster(family, &roster);
         break;
-    default:
+    case ROWS:
         ask_rows(family, &input, 0);
+        break;
+    default:
+        unpack_pair(&input, &pair);
+        ask_compare(family, &pair);
         break;
     }
 }
@@ -131,6 +138,17 @@ static const char *fresh_rows(void)
     return family->its.name;
 }
 
+static const char *fresh_pair(void)
+{
+    static uint64_t number;
+    uint64_t turn;
+    const struct pair_family *family = pair_family(number++, &turn);
+
+    make_pair(family, &pair, turn);
+    pack_pair(&input, &pair);
+    return family->its.name;
+}
+
 static const char *fresh(void)
 {
     switch (kind) {
@@ -140,6 +158,8 @@ static const char *fresh(void)
         return fresh_roster();
     case ROWS:
         return fresh_rows();
+    case PAIRS:
+        return fresh_pair();
     default:
         return fresh_file();
     }
@@ -149,7 +169,7 @@ static void compare_one(uint64_t number)
 {
     const char *family = "changes";
 
-    kind = one_in(2) ? STATES : one_in(3) ? ROWS : one_in(4) ? ROSTERS : one_in(4) ? SECTIONS : FILES;
+    kind = one_in(2) ? STATES : one_in(3) ? ROWS : one_in(4) ? ROSTERS : one_in(4) ? PAIRS : one_in(3) ? SECTIONS : FILES;
     if (number < BEGINNING || one_in(FRESH) || corpus_count(kind) == 0)
         family = fresh();
     else {
@@ -204,7 +224,7 @@ static void repeat(void)
 static void wrong_words(void)
 {
     fprintf(stderr, "guided: give guided [N [SEED]], or state and its eight words in hex of 16 digits, "
-                    "or file, sections, roster or rows and a name\n");
+                    "or file, sections, roster, rows or pair and a name\n");
     exit(EXIT_FAILURE);
 }
 

@@ -25,7 +25,7 @@ fi
 
 calls=$(grep -o 'kelubashi1_[a-z]*' include/kelubashi.h | sort -u)
 inline='kelubashi_propagate kelubashi_partials kelubashi_refusal_text kelubashi_refusal_advice'
-subcommands='results show elements read centres check rows state selfcheck'
+subcommands='results show elements read centres check rows compare state selfcheck'
 
 # Only what is in build/ is copied, and under a narrow umask, which must not matter.
 put() {

@@ -10,16 +10,28 @@ struct given library, second;
 
 #define BEHIND 16     /* bytes behind a file that are looked at */
 
+/* A file that is lent, and its copies. */
+static struct copies {
+    const struct file *file;
+    struct file to_library, to_second;
+} left, right;
+
 static const char *its_family;
-static const struct file *its_file;
+static const struct file *its_file, *its_right;
 static const struct sections *its_sections;
-static struct file lent_to_library, lent_to_second;
 
 void lent_for(const char *family, const struct file *file, const struct sections *sections)
 {
     its_family = family;
     its_file = file;
+    its_right = NULL;
     its_sections = sections;
+}
+
+void lent_for_pair(const char *family, const struct file *of_left, const struct file *of_right)
+{
+    lent_for(family, of_left, NULL);
+    its_right = of_right;
 }
 
 /* The room with its edges. */
@@ -33,9 +45,16 @@ static size_t length_of(const struct given *g)
     return g->room_length + 2 * EDGE;
 }
 
-static uint8_t lent_byte(size_t i)
+/* What a room holds when it is lent. */
+static const uint8_t *lent_bytes(void)
 {
-    return (uint8_t)(0xA5 + i % 251);
+    static uint8_t bytes[MOST_ROOM];
+    size_t i;
+
+    if (bytes[0] == 0)
+        for (i = 0; i < MOST_ROOM; i++)
+            bytes[i] = (uint8_t)(0xA5 + i % 251);
+    return bytes;
 }
 
 void lend(struct given *g, uint64_t mark, size_t room_length)
@@ -46,8 +65,7 @@ void lend(struct given *g, uint64_t mark, size_t room_length)
     g->room_length = room_length;
     for (i = 0; i < READ + 2; i++)
         g->answer[i] = mark + i;
-    for (i = 0; i < length_of(g); i++)
-        bytes_of(g)[i] = lent_byte(i);
+    memcpy(g->room, lent_bytes(), length_of(g));
 }
 
 void lend_both(size_t room_length)
@@ -68,15 +86,13 @@ uint64_t *words_of(struct given *g)
 
 int room_kept(size_t from)
 {
-    size_t i;
+    size_t behind = EDGE + from;
 
-    for (i = 0; i < length_of(&library); i++)
-        if ((i < EDGE || i >= EDGE + from) && bytes_of(&library)[i] != lent_byte(i))
-            return 0;
-    return 1;
+    return memcmp(bytes_of(&library), lent_bytes(), EDGE) == 0
+           && memcmp(bytes_of(&library) + behind, lent_bytes() + behind, length_of(&library) - behind) == 0;
 }
 
-/* ---- the file ---- */
+/* ---- the file, or two ---- */
 
 static void lend_copy(struct file *copy, const struct file *f, int behind)
 {
@@ -85,20 +101,48 @@ static void lend_copy(struct file *copy, const struct file *f, int behind)
     copy->length = f->length;
 }
 
+static void lend_copies(struct copies *c, const struct file *f)
+{
+    c->file = f;
+    lend_copy(&c->to_library, f, 0);
+    lend_copy(&c->to_second, f, 0xFF);
+}
+
 void lend_file(const struct file *f)
 {
-    lend_copy(&lent_to_library, f, 0);
-    lend_copy(&lent_to_second, f, 0xFF);
+    lend_copies(&left, f);
+    right.file = NULL;
+}
+
+void lend_pair(const struct file *of_left, const struct file *of_right)
+{
+    lend_copies(&left, of_left);
+    lend_copies(&right, of_right);
+}
+
+static const uint8_t *file_bytes(const struct file *f)
+{
+    return f->length ? f->bytes : NULL;
 }
 
 const uint8_t *library_file(void)
 {
-    return lent_to_library.length ? lent_to_library.bytes : NULL;
+    return file_bytes(&left.to_library);
 }
 
 const uint8_t *second_file(void)
 {
-    return lent_to_second.length ? lent_to_second.bytes : NULL;
+    return file_bytes(&left.to_second);
+}
+
+const uint8_t *library_right(void)
+{
+    return file_bytes(&right.to_library);
+}
+
+const uint8_t *second_right(void)
+{
+    return file_bytes(&right.to_second);
 }
 
 static int copy_kept(const struct file *copy, const struct file *f, int behind)
@@ -111,10 +155,15 @@ static int copy_kept(const struct file *copy, const struct file *f, int behind)
     return memcmp(copy->bytes, f->bytes, f->length) == 0;
 }
 
+static int copies_kept(const struct copies *c)
+{
+    return copy_kept(&c->to_library, c->file, 0) && copy_kept(&c->to_second, c->file, 0xFF);
+}
+
 void expect_file_kept(void)
 {
-    if (!copy_kept(&lent_to_library, its_file, 0) || !copy_kept(&lent_to_second, its_file, 0xFF))
-        differs("written to the file");
+    if (!copies_kept(&left) || (right.file != NULL && !copies_kept(&right)))
+        differs("written to a file");
 }
 
 /* ---- what is told ---- */
@@ -128,12 +177,19 @@ static void print_bytes(const uint8_t *bytes, size_t length, size_t most)
     printf("%s\n", length > most ? " and more" : "");
 }
 
+static void print_file(const char *which, const struct file *f)
+{
+    printf("  the %sfile, %zu bytes:", which, f->length);
+    print_bytes(f->bytes, f->length, f->length);
+}
+
 /* In full: a comparison may have no other way to tell it. */
 static void print_input(void)
 {
     if (its_file != NULL) {
-        printf("  the file, %zu bytes:", its_file->length);
-        print_bytes(its_file->bytes, its_file->length, its_file->length);
+        print_file(its_right != NULL ? "left " : "", its_file);
+        if (its_right != NULL)
+            print_file("right ", its_right);
         return;
     }
     words_tell("centres", its_sections->centres, its_sections->centre_words);

@@ -12,8 +12,8 @@
 #define WRITTEN 2
 #define EDGE 16     /* bytes before and behind what is lent */
 #define TAIL 24     /* room beyond what is needed */
-#define MOST_RESULTS (16 + 88 * 1500)
-#define MOST_ROOM (MOST_RESULTS + TAIL + 2 * EDGE)
+#define MOST_TOLD (8 * 19 * 1500)     /* bytes that are told of two result files: the longest of what is lent */
+#define MOST_ROOM (MOST_TOLD + TAIL + 2 * EDGE)
 
 /* What one call gave: its status, its answer with a word before and behind, and its room, lent as bytes or as words. */
 struct given {
@@ -25,19 +25,23 @@ struct given {
 
 extern struct given library, second;
 
-/* The input that a disagreement is told of: a file, or sections. */
+/* The input that a disagreement is told of: a file, sections, or two files. */
 void lent_for(const char *family, const struct file *file, const struct sections *sections);
+void lent_for_pair(const char *family, const struct file *left, const struct file *right);
 
 /* Words and bytes unlike their neighbours; another mark in the answer for each program. */
 void lend(struct given *given, uint64_t mark, size_t room_length);
 void lend_both(size_t room_length);
 
-/* The file in a copy for each program. Behind it stand other bytes in each, so that one that reads on finds something else. */
+/* The file, or two, in a copy for each program. Behind it stand other bytes in each, so that one that reads on finds something else. */
 void lend_file(const struct file *file);
+void lend_pair(const struct file *left, const struct file *right);
 
-/* Null where the length is 0. */
+/* Null where the length is 0. Of a pair the left one, and the right one. */
 const uint8_t *library_file(void);
 const uint8_t *second_file(void);
+const uint8_t *library_right(void);
+const uint8_t *second_right(void);
 uint8_t *room_of(struct given *given);
 uint64_t *words_of(struct given *given);     /* the room as words */
 uint64_t *answer_of(struct given *given, size_t count);
@@ -51,7 +55,7 @@ void compare(const char *what, size_t words);
 /* The library's status is 60, and nothing is written. */
 void expect_sixty(const char *what);
 
-/* Neither program wrote to its copy of the file, or behind it. */
+/* Neither program wrote to its copy of the file, or of either, or behind it. */
 void expect_file_kept(void);
 
 /* Whether the library left the bytes around its room, and those of the room from this one on. */

@@ -11,3 +11,12 @@ void one_row(const uint64_t *given, const uint64_t *answer, uint8_t *file)
     for (i = 0; i < ONE_ROW; i++)
         file[i] = (uint8_t)(words[i / 8] >> 8 * (i % 8));
 }
+
+void move_results(const uint8_t *results, uint8_t *moved)
+{
+    int i;
+
+    memcpy(moved, results, ONE_RESULT);
+    for (i = 16 + 8 * KELUBASHI_X; i < ONE_RESULT; i += 8)
+        moved[i] ^= 1;
+}

@@ -111,3 +111,32 @@ void unpack_roster(const struct file *f, struct roster *r)
     for (r->calls = 0; r->calls < MOST_CALLS && place < f->length; r->calls++)
         take_call(f, &place, &r->call[r->calls]);
 }
+
+static void add_file(struct file *f, const struct file *part)
+{
+    memcpy(f->bytes + f->length, part->bytes, part->length);
+    f->length += part->length;
+}
+
+void pack_pair(struct file *f, const struct pair *p)
+{
+    f->length = 0;
+    add_word(f, p->left.length);
+    add_file(f, &p->left);
+    add_file(f, &p->right);
+}
+
+static void take_file(const struct file *f, size_t from, size_t length, struct file *part)
+{
+    memcpy(part->bytes, f->bytes + from, length);
+    part->length = length;
+}
+
+/* A length that is more than there is becomes another. */
+void unpack_pair(const struct file *f, struct pair *p)
+{
+    size_t from = f->length < 8 ? f->length : 8, bytes = f->length - from, left = (size_t)(word_or_zero(f, 0) % (bytes + 1));
+
+    take_file(f, from, left, &p->left);
+    take_file(f, from + left, bytes - left, &p->right);
+}

@@ -2,7 +2,7 @@
 # The C of host/ and the command on this machine's own processor, with the second program in the library's place: under
 # the sanitizers of addresses and of undefined behaviour, and under valgrind.
 #
-#     sanitize.sh                        the cases of tests/command.sh and tests/command_rows.sh, and some damaged inputs
+#     sanitize.sh                        the cases of tests/command.sh and those beside it, and some damaged inputs
 #     sanitize.sh fuzz N SEED [FIRST]    N damaged inputs of a seed, from number FIRST on
 set -eu
 cd "$(dirname "$0")/.."
@@ -33,9 +33,9 @@ fi
 # ---- The programs, once with sanitizers and once plain.
 
 command='command/*.c command/parts/*.c host/kelubashi_selfcheck.c tests/second_library.c'
-second=$(printf 'tests/second/%s.c ' root series revolutions search states walk files summary rows)
+second=$(printf 'tests/second/%s.c ' root series revolutions search states walk files summary rows compare)
 drive=$(printf 'tests/%s.c ' drive orbits sections damaged answered_rows)
-wrapped=$(printf ' -Wl,--wrap=%s' rename fsync close fchmod write read kelubashi1_summary kelubashi1_check)
+wrapped=$(printf ' -Wl,--wrap=%s' rename fsync close fchmod write read kelubashi1_summary kelubashi1_check kelubashi1_compare)
 
 # One name is linked of these files; nothing is compiled twice, however many names there are.
 compile() {
@@ -83,7 +83,7 @@ if [ "${1:-}" = fuzz ]; then
     exit
 fi
 
-for script in tests/command.sh tests/command_rows.sh; do
+for script in tests/command.sh tests/command_rows.sh tests/command_compare.sh; do
     sh $script 'under sanitizers' "$folder/kelubashi" "$folder/kelubashi_faulty"
 done
 "$folder/example" >"$room/printed" || fail 'host/example.c fails'
@@ -116,6 +116,10 @@ grind 2 "$kelubashi" check "$files/torn"
 grind 0 "$kelubashi" elements examples/orbits.txt -o "$files/elements"
 head -c 100 "$files/results" >"$files/torn"
 grind 2 "$kelubashi" show $example "$files/torn"
+{ head -c 40 "$files/results" && printf x && tail -c +42 "$files/results"; } >"$files/changed"
+grind 0 "$kelubashi" compare "$files/results" "$files/results"
+grind 1 "$kelubashi" compare --all "$files/results" "$files/changed"
+grind 2 "$kelubashi" compare "$files/results" "$files/changed" "$files/torn" "$files/results"
 head -c 100 $example >"$files/short"
 grind 1 "$kelubashi" results "$files/short"
 grind 1 "$kelubashi" centres "$files/short"
@@ -124,5 +128,5 @@ printf 'centre 1\nstate 3 0 1 0 0 0 0 0\n' >"$files/listing"
 grind 2 "$kelubashi" elements "$files/listing"
 grind 0 "$kelubashi" state 398600.4418 1131.340 -2282.343 6672.423 -5.64305 4.30333 2.42879 600
 grind 0 "$folder/example"
-grind 0 "$folder/damaged_command" "$files" 120
+grind 0 "$folder/damaged_command" "$files" 150
 echo "sanitize: host/ and the command are clean under the sanitizers; and under valgrind, $cases calls"

@@ -60,3 +60,9 @@ uint64_t kelubashi1_check(const uint8_t *file, size_t length, uint64_t *verdicts
 {
     return second_check(file, length, verdicts, k, answer, n);
 }
+
+uint64_t kelubashi1_compare(const uint8_t *left, size_t left_length, const uint8_t *right, size_t right_length,
+                            uint64_t *rows, size_t k, uint64_t *answer, size_t n)
+{
+    return second_compare(left, left_length, right, right_length, rows, k, answer, n);
+}

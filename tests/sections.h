@@ -19,7 +19,8 @@
 #define STATE 8
 #define REQUEST 2
 #define MOST_BEHIND 65600     /* bytes behind a file */
-#define MOST_BYTES (8 * (4 + MOST_CENTRES + STATE * MOST_STATES + REQUEST * MOST_REQUESTS) + MOST_BEHIND)
+#define MOST_RESULTS (16 + 88 * MOST_REQUESTS)     /* bytes of a result file, which has a row for each request */
+#define MOST_BYTES (2 * MOST_RESULTS + MOST_BEHIND)     /* two result files in one are the longest (see packed.h) */
 
 struct sections {
     uint64_t centres[MOST_CENTRES], states[STATE * MOST_STATES + 8], requests[REQUEST * MOST_REQUESTS + 2];

@@ -14,7 +14,7 @@ run() {
     sh tests/machine.sh run "$@"
 }
 
-second=$(printf 'tests/second/%s.c ' root series revolutions search states walk files summary rows)
+second=$(printf 'tests/second/%s.c ' root series revolutions search states walk files summary rows compare)
 
 # fast-math alone may change a host's own figures; what it links is what changes the library's
 for how in -O0 -O2 '-O3 -ffast-math'; do
@@ -46,7 +46,7 @@ if ! grep -q 'NOT TRIED' "$room/said_fast"; then
         build/libkelubashi.a
     rm -f "$room/results"
     for words in selfcheck 'selfcheck -q' "results examples/orbits.elements -o $room/results" 'read examples/orbits.elements' 'centres examples/orbits.elements' \
-        'check examples/orbits.elements' "rows examples/orbits.elements -o $room/results" \
+        'check examples/orbits.elements' "rows examples/orbits.elements -o $room/results" 'compare examples/orbits.elements examples/orbits.elements' \
         'show examples/orbits.elements examples/orbits.elements' 'elements examples/orbits.txt' 'state 0 1 0 0 0 0 0 1'; do
         status=0
         # shellcheck disable=SC2086 # a list of words

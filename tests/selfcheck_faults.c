@@ -23,6 +23,10 @@ enum fault {
     RESULTS_OF_ZEROS, RESULTS_WITHOUT_COUNT, RESULTS_REFUSE, RESULTS_TAKE_SHORT_FILES, RESULTS_LENGTH_LOST,
     CHECK_ACCEPTS_ALL, CHECK_ACCEPTS_NONE, CHECK_UNWRITTEN, CHECK_BEYOND, CHECK_TAKES_SHORT_FILES, CHECK_IN_ANY_RUN, CHECK_ROWS_LOST,
     CHECK_ANY_PSI, CHECK_ANY_FIGURES, CHECK_NUMBERS, CHECK_TURNED, CHECK_KEEPS_REVOLUTIONS, CHECK_DROPS_SUBNORMALS,
+    COMPARE_UNWRITTEN, COMPARE_BEYOND, COMPARE_ROWS_LOST, COMPARE_LAST_LARGEST, COMPARE_WORD_OF_FIGURES,
+    COMPARE_POINTS, COMPARE_SIDES_EXCHANGED, COMPARE_ALIKE, COMPARE_LOWER_HALF, COMPARE_TELLS_REFUSED,
+    COMPARE_WORDS, COMPARE_TWO_ZEROS, COMPARE_SIGN_LOST, COMPARE_HALF, COMPARE_INFINITE, COMPARE_NUMBERS,
+    COMPARE_TAKES_SHORT_FILES, COMPARE_SIDE_LOST, COMPARE_IN_ANY_RUN, COMPARE_ANY_COUNTS,
     APPEND_UNWRITTEN, APPEND_SHOWS_MINUS_ZERO, APPEND_COUNTS_NANS, APPEND_LEAVES_OUT_INFINITIES, APPEND_ALL_ENTRIES, APPEND_COUNT_LOST, APPEND_ANY_CENTRE,
     WITHDRAW_MOVES_UP, WITHDRAW_CLEARS, WITHDRAW_OLD_ENTRY, WITHDRAW_NEVER_REFUSES, SUMMARY_UNWRITTEN, SUMMARY_ANY_RUN, SUMMARY_ANY_LIST, SUMMARY_OF_ZEROS
 };
@@ -90,6 +94,26 @@ static const struct telling {
     { CHECK_TURNED, DOES_NOT "P11's row with P10's psi: the verdict is 1 and not 0: " },
     { CHECK_KEEPS_REVOLUTIONS, DOES_NOT "the row of whole revolutions: the verdict is 0 and not 1: " },
     { CHECK_DROPS_SUBNORMALS, DOES_NOT "the subnormal orbit's row: the verdict is 0 and not 1: " },
+    { COMPARE_UNWRITTEN, DOES_NOT "equal rows: the kind of row is 6840227782638526189 and not 0: " },
+    { COMPARE_BEYOND, DOES_NOT "comparing results: a word that tells of no row is 0000000000000000 and not 5EED5EED5EED5EED: " },
+    { COMPARE_ROWS_LOST, DOES_NOT "comparing results: the count of rows is 0 and not 13: " },
+    { COMPARE_LAST_LARGEST, DOES_NOT "comparing results: the row of the largest distance is 6 and not 5: " },
+    { COMPARE_WORD_OF_FIGURES, DOES_NOT "comparing results: its word is 5 and not 7: " },
+    { COMPARE_POINTS, DOES_NOT "rows with other points: the kind of row is 4 and not 0: " },
+    { COMPARE_SIDES_EXCHANGED, DOES_NOT "a row refused on the left: the kind of row is 2 and not 1: " },
+    { COMPARE_ALIKE, DOES_NOT "a row refused with two numbers: the kind of row is 3 and not 4: " },
+    { COMPARE_LOWER_HALF, DOES_NOT "a row refused on the right: the kind of row is 0 and not 2: " },
+    { COMPARE_TELLS_REFUSED, DOES_NOT "a row refused on the left: the kind of a figure is 0 and not 3: " },
+    { COMPARE_WORDS, DOES_NOT "both zeros: a distance is 9223372036854775808 and not 0: " },
+    { COMPARE_TWO_ZEROS, DOES_NOT "both zeros: a distance is 1 and not 0: " },
+    { COMPARE_SIGN_LOST, DOES_NOT "the figures beside zero: a distance is 0 and not 2: " },
+    { COMPARE_HALF, DOES_NOT "figures from end to end: a distance is 9007199254740994 and not 18437736874454810622: " },
+    { COMPARE_INFINITE, DOES_NOT "the largest figure and infinity: the kind of a figure is 0 and not 2: " },
+    { COMPARE_NUMBERS, DOES_NOT "a NaN and itself: the kind of a figure is 2 and not 1: " },
+    { COMPARE_TAKES_SHORT_FILES, DOES_NOT "comparing results, the right file a byte short: the status is 0 and not 21: " },
+    { COMPARE_SIDE_LOST, DOES_NOT "comparing results, the right file a byte short: the side is 0 and not 1: " },
+    { COMPARE_IN_ANY_RUN, DOES_NOT "comparing results, with a run a word short: the status is 0 and not 26: " },
+    { COMPARE_ANY_COUNTS, DOES_NOT "comparing results, a row fewer on the right: the status is 0 and not 51: " },
     { APPEND_UNWRITTEN, DOES_NOT "a state at -0 s appended: a word of the states is 5EED5EED5EED5EED and not 0000000000000000: " },
     { APPEND_SHOWS_MINUS_ZERO, DOES_NOT "a state at -0 s appended: its earliest epoch is 8000000000000000 and not 0000000000000000: " },
     { APPEND_COUNTS_NANS, DOES_NOT "a state at a NaN appended: the states of centre 1 is 0000000000000001 and not 0000000000000000: " },
@@ -376,6 +400,110 @@ uint64_t kelubashi1_check(const uint8_t *file, size_t length, uint64_t *verdicts
         memset(verdicts + i, 0, (k - i) * sizeof *verdicts);
     if (fault == CHECK_ROWS_LOST)
         answer[KELUBASHI_CHECK_ROWS] = 0;
+    return status;
+}
+
+/* What is told of two figures, with the fault. */
+static void spoil_figure(uint64_t left, uint64_t right, uint64_t *told)
+{
+    uint64_t size_left = left & INT64_MAX, size_right = right & INT64_MAX;
+
+    if (fault == COMPARE_INFINITE && told[0] == KELUBASHI_FIGURE_UNEQUAL)
+        told[0] = KELUBASHI_FIGURE_DISTANCE;
+    if (fault == COMPARE_NUMBERS && kelubashi_figure(left) != kelubashi_figure(right))
+        told[0] = told[0] == KELUBASHI_FIGURE_EQUAL ? KELUBASHI_FIGURE_UNEQUAL : told[0];
+    if (fault == COMPARE_WORDS)
+        told[1] = left < right ? right - left : left - right;
+    if (fault == COMPARE_TWO_ZEROS)
+        told[1] += (left ^ right) >> 63;
+    if (fault == COMPARE_SIGN_LOST)
+        told[1] = size_left < size_right ? size_right - size_left : size_left - size_right;
+    if (fault == COMPARE_HALF && told[1] > INT64_MAX)
+        told[1] = -told[1];
+}
+
+/* Another kind for two rows, by the words at fault. */
+static uint64_t other_kind(const uint8_t *left, const uint8_t *right, uint64_t kind)
+{
+    uint64_t of_left = row_word(left, KELUBASHI_REFUSAL), of_right = row_word(right, KELUBASHI_REFUSAL);
+
+    switch (fault) {
+    case COMPARE_POINTS:
+        return row_word(left, KELUBASHI_POINTS) == row_word(right, KELUBASHI_POINTS) ? kind : KELUBASHI_ROW_REFUSED_UNLIKE;
+    case COMPARE_SIDES_EXCHANGED:
+        return kind == KELUBASHI_ROW_LEFT_REFUSED ? KELUBASHI_ROW_RIGHT_REFUSED : kind == KELUBASHI_ROW_RIGHT_REFUSED ? KELUBASHI_ROW_LEFT_REFUSED : kind;
+    case COMPARE_ALIKE:
+        return kind == KELUBASHI_ROW_REFUSED_UNLIKE ? KELUBASHI_ROW_REFUSED_ALIKE : kind;
+    case COMPARE_LOWER_HALF:
+        return (of_left | of_right) << 32 == 0 ? KELUBASHI_ROW_ANSWERED : kind;
+    default:
+        return kind;
+    }
+}
+
+static void spoil_told(const uint8_t *left, const uint8_t *right, uint64_t *told)
+{
+    size_t i;
+
+    for (i = 0; i < 9; i++) {
+        uint64_t *figure = told + 1 + 2 * i;
+
+        if (told[0] == KELUBASHI_ROW_ANSWERED)
+            spoil_figure(row_word(left, KELUBASHI_X + i), row_word(right, KELUBASHI_X + i), figure);
+        else if (fault == COMPARE_TELLS_REFUSED)
+            figure[0] = KELUBASHI_FIGURE_DISTANCE;
+    }
+    told[0] = other_kind(left, right, told[0]);
+}
+
+/* The last of the largest for the first. */
+static void last_largest(const uint64_t *told, uint64_t rows, uint64_t *answer)
+{
+    uint64_t i;
+
+    for (i = 0; i < 9 * rows; i++)
+        if (told[KELUBASHI_COMPARED * (i / 9) + 2 + 2 * (i % 9)] == answer[KELUBASHI_COMPARE_DISTANCE]) {
+            answer[KELUBASHI_COMPARE_ROW] = i / 9;
+            answer[KELUBASHI_COMPARE_WORD] = KELUBASHI_X + i % 9;
+        }
+}
+
+static void spoil_compared(const uint64_t *told, uint64_t rows, uint64_t *answer)
+{
+    if (fault == COMPARE_LAST_LARGEST)
+        last_largest(told, rows, answer);
+    if (fault == COMPARE_WORD_OF_FIGURES)
+        answer[KELUBASHI_COMPARE_WORD] -= KELUBASHI_X;
+    if (fault == COMPARE_ROWS_LOST)
+        answer[KELUBASHI_COMPARE_ROWS] = 0;
+    if (fault == COMPARE_SIDE_LOST)
+        answer[KELUBASHI_COMPARE_SIDE] = 0;
+}
+
+/* A length as it would be of whole words, or a file like the other, where the fault looks no further. */
+static uint64_t faulty_compare(const uint8_t *left, size_t left_length, const uint8_t *right, size_t right_length, uint64_t *told, size_t k, uint64_t *answer,
+                               size_t n)
+{
+    if (fault == COMPARE_TAKES_SHORT_FILES)
+        right_length += (8 - right_length % 8) % 8;
+    if (fault == COMPARE_ANY_COUNTS && left_length > right_length && right_length % 8 == 0)
+        return second_compare(left, left_length, left, left_length, told, k, answer, n);
+    return second_compare(left, left_length, right, right_length, told, fault == COMPARE_IN_ANY_RUN ? 512 : k, answer, n);
+}
+
+uint64_t kelubashi1_compare(const uint8_t *left, size_t left_length, const uint8_t *right, size_t right_length, uint64_t *rows, size_t k,
+                            uint64_t *answer, size_t n)
+{
+    uint64_t told[512], status = faulty_compare(left, left_length, right, right_length, told, k, answer, n), count = answer[KELUBASHI_COMPARE_ROWS];
+    size_t i, words = KELUBASHI_COMPARED * (size_t)count;
+
+    for (i = 0; i < count; i++)
+        spoil_told(left + 16 + 8 * KELUBASHI_ROW * i, right + 16 + 8 * KELUBASHI_ROW * i, told + KELUBASHI_COMPARED * i);
+    spoil_compared(told, count, answer);
+    if (fault != COMPARE_UNWRITTEN)
+        memcpy(rows, told, (words < k ? words : k) * sizeof *rows);
+    if (fault == COMPARE_BEYOND && words < k)
+        memset(rows + words, 0, (k - words) * sizeof *rows);
     return status;
 }
 

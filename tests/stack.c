@@ -22,8 +22,8 @@ static uint64_t answer[KELUBASHI_ANSWER], run[KELUBASHI_PARTIALS], status;
 static uint8_t file[KELUBASHI_MOST_FILE], room[KELUBASHI_MOST_RESULTS];
 static size_t length;
 static uint64_t states[KELUBASHI_STATE_RUN], list[KELUBASHI_ENTRY];
-static uint8_t row[ONE_ROW];
-static uint64_t verdict;
+static uint8_t row[ONE_ROW], moved[ONE_RESULT];
+static uint64_t verdict, told[KELUBASHI_COMPARED];
 
 /*
 **  The low Earth orbit of the README for 600 s and for 960 s, a hyperbola for a day, and a figure that is refused. Their anomalies are
@@ -97,6 +97,12 @@ static void check(void)
     status = kelubashi1_check(row, sizeof row, &verdict, 1, answer, KELUBASHI_CHECK_ANSWER);
 }
 
+/* Our own results with every figure moved. */
+static void compare(void)
+{
+    status = kelubashi1_compare(room, ONE_RESULT, moved, ONE_RESULT, told, KELUBASHI_COMPARED, answer, KELUBASHI_COMPARE_ANSWER);
+}
+
 /* 400 states of one centre, one more, and one fewer. */
 static void summary(void)
 {
@@ -145,6 +151,8 @@ static void tell(const char *name, void (*call)(void))
 
         given = GIVEN[i];
         needed(write_file);     /* the element file that is read */
+        results();
+        move_results(room, moved);
         put_row();
         here = needed(call);
         if (here > most)
@@ -162,6 +170,7 @@ int main(void)
     tell("kelubashi1_write", write_file);
     tell("kelubashi1_results", results);
     tell("kelubashi1_check", check);
+    tell("kelubashi1_compare", compare);
     tell("kelubashi1_summary", summary);
     tell("kelubashi1_append", append);
     tell("kelubashi1_withdraw", withdraw);

@@ -3,7 +3,6 @@
 #include "input.h"
 #include "say.h"
 
-#include <inttypes.h>
 #include <stdio.h>
 
 void judge_elements(struct element_file *elements)
@@ -29,48 +28,17 @@ uint64_t elements_refusal(const struct element_file *elements)
 
 /* ---- the place of a refusal ---- */
 
-static const struct section {
-    const char *name;
-    uint64_t width;
-    const char *words[KELUBASHI_STATE];
-} SECTIONS[] = {
-    { "centre", 1, { "mu" } },
-    { "state", KELUBASHI_STATE, { "the centre", "the epoch", "x", "y", "z", "vx", "vy", "vz" } },
-    { "request", KELUBASHI_REQUEST, { "the state", "the time" } }
-};
-
-/* What stands at a place, by the counts before it, which are good in a file that is accepted, and where the place is the first fault. */
-static void describe(const struct element_file *elements, uint64_t place, char *text, size_t size)
-{
-    uint64_t at = 8;
-    size_t i;
-
-    snprintf(text, size, place < at ? "the edition" : "behind the last section");
-    for (i = 0; i < sizeof SECTIONS / sizeof SECTIONS[0] && place >= at; i++) {
-        const struct section *s = &SECTIONS[i];
-        uint64_t count;
-
-        if (place == at || at + 8 > elements->length) {
-            snprintf(text, size, "the count of %ss", s->name);
-            return;
-        }
-        count = word_from(elements->bytes + at);
-        at += 8;
-        if (place < at + 8 * s->width * count) {
-            uint64_t word = (place - at) / 8;
-            snprintf(text, size, "%s of %s %" PRIu64, s->words[word % s->width], s->name, word / s->width);
-            return;
-        }
-        at += 8 * s->width * count;
+static const struct layout LAYOUT = {
+    1, 3, {
+        { "centre", 1, { "mu" } },
+        { "state", KELUBASHI_STATE, { "the centre", "the epoch", "x", "y", "z", "vx", "vy", "vz" } },
+        { "request", KELUBASHI_REQUEST, { "the state", "the time" } }
     }
-}
+};
 
 void describe_place(const struct element_file *elements, uint64_t place, char *text, size_t size)
 {
-    char what[64];
-
-    describe(elements, place, what, sizeof what);
-    snprintf(text, size, "at byte %" PRIu64 ", %s", place, what);
+    describe_byte(&LAYOUT, elements->bytes, elements->length, place, text, size);
 }
 
 void say_refused_elements(const struct element_file *elements)

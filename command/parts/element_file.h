@@ -4,12 +4,10 @@
 #ifndef ELEMENT_FILE_H
 #define ELEMENT_FILE_H
 
-#include "kelubashi.h"
+#include "place.h"
 
 /* The words of a state and of a request. */
 enum { STATE_CENTRE = 0, STATE_EPOCH = 1, STATE_X = 2, STATE_VX = 5, REQUEST_STATE = 0, REQUEST_TIME = 1 };
-
-enum { PLACE_TEXT = 96 };   /* bytes that describe_place needs at most */
 
 struct element_file {
     const char *name;
@@ -30,7 +28,7 @@ uint64_t elements_refusal(const struct element_file *elements);
 /* Says the refusal of the file: its number, byte, and what stands there. */
 void say_refused_elements(const struct element_file *elements);
 
-/* What stands at a byte of the file: "at byte 48, x of state 0". */
+/* What stands at a byte of the file: "at byte 48, x of state 0", in PLACE_TEXT bytes at most. */
 void describe_place(const struct element_file *elements, uint64_t place, char *text, size_t size);
 
 /* How many there are, and a word of one of them; for a file that is accepted. */

@@ -50,3 +50,10 @@ void put_figure(int width, int digits, double figure)
     else
         printf(" %*.*g", width, width - 8, figure);     /* sign, point, e+308 */
 }
+
+const char *unit_of(size_t figure)
+{
+    static const char *const UNITS[] = { "km", "km/s", "km/s^2" };
+
+    return UNITS[figure / 3];
+}

@@ -17,7 +17,7 @@ enum { NAME = 4096 };   /* bytes of the longest name, its end included: PATH_MAX
 
 void gather_output(void)
 {
-    static char gathered[1 << 20];  /* a listing of the fullest files takes a third of it */
+    static char gathered[1 << 21];  /* the fullest result files, each figure moved, take three quarters of it */
 
     setvbuf(stdout, gathered, _IOFBF, sizeof gathered);
 }

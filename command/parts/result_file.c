@@ -14,9 +14,16 @@ enum {
 
 #define MAKE_ANEW "make it anew with kelubashi results"
 
-static const char *const NAMES[KELUBASHI_ROW] = {
-    "the refusal", "the count of points", "x", "y", "z", "vx", "vy", "vz", "ax", "ay", "az"
+static const struct layout LAYOUT = {
+    1, 1, {
+        { "row", KELUBASHI_ROW, { "the refusal", "the count of points", "x", "y", "z", "vx", "vy", "vz", "ax", "ay", "az" } }
+    }
 };
+
+const char *result_word_name(size_t word)
+{
+    return LAYOUT.section[0].words[word];
+}
 
 int make_results(const struct element_file *elements, struct result_file *results)
 {
@@ -42,6 +49,11 @@ static uint64_t word_of(const struct result_file *results, size_t word)
     return word_from(results->bytes + 8 * word);
 }
 
+uint64_t result_rows(const struct result_file *results)
+{
+    return word_of(results, 1);
+}
+
 uint64_t row_word(const struct result_file *results, size_t row, size_t word)
 {
     return word_of(results, HEAD / 8 + row * KELUBASHI_ROW + word);
@@ -54,6 +66,28 @@ size_t refused_count(const struct result_file *results, size_t rows)
     for (row = 0; row < rows; row++)
         count += row_word(results, row, KELUBASHI_REFUSAL) != 0;
     return count;
+}
+
+/* ---- refused by the library ---- */
+
+/* Whether what is left behind the count is the number of a refused element file. 25 is said of 24 bytes only where they count no rows. */
+static int is_of_refused(const struct result_file *results, uint64_t refusal)
+{
+    return refusal == 25 && results->length == REFUSED_FILE && word_of(results, 2) != 0;
+}
+
+void say_refused_results(const struct result_file *results, uint64_t refusal, uint64_t place)
+{
+    char text[PLACE_TEXT];
+
+    if (is_of_refused(results, refusal)) {
+        say("%s: has no rows to compare: it is the result file of an element file that is refused (%" PRIu64 "): %s; correct the "
+            "element file, as kelubashi read tells it, and make the results anew with kelubashi results", results->name,
+            word_of(results, 2), kelubashi_refusal_text(word_of(results, 2)));
+        return;
+    }
+    describe_byte(&LAYOUT, results->bytes, results->length, place, text, sizeof text);
+    say_refused(refusal, "%s: %s:", results->name, text);
 }
 
 /* ---- judging ---- */
@@ -126,8 +160,8 @@ static void say_difference(const struct result_file *results, const struct resul
             results->name, word_of(results, word), elements->name, word_of(right, word));
     else
         say("%s: is of another element file, of another library, or damaged: in row %lu %s is %s, and the library answers %s "
-            "to request %lu of %s: " FOREIGN, results->name, (unsigned long)(in_rows / KELUBASHI_ROW), NAMES[in_row], here,
-            there, (unsigned long)(in_rows / KELUBASHI_ROW), elements->name);
+            "to request %lu of %s: " FOREIGN, results->name, (unsigned long)(in_rows / KELUBASHI_ROW),
+            result_word_name(in_row), here, there, (unsigned long)(in_rows / KELUBASHI_ROW), elements->name);
 }
 
 int are_results_of(const struct result_file *results, const struct element_file *elements)

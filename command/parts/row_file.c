@@ -1,24 +1,27 @@
 #include "row_file.h"
 
 #include "input.h"
+#include "place.h"
 #include "say.h"
 
-#include <inttypes.h>
-#include <stdio.h>
 #include <string.h>
 
 enum { ROW_BYTES = 8 * KELUBASHI_CHECK_ROW };
 
 /* ---- words ---- */
 
+static const struct layout LAYOUT = {
+    0, 1, {
+        { "row", KELUBASHI_CHECK_ROW, {
+            "mu", "x", "y", "z", "vx", "vy", "vz", "tau", "psi",
+            "end x", "end y", "end z", "end vx", "end vy", "end vz", "end ax", "end ay", "end az"
+        } }
+    }
+};
+
 const char *row_word_name(size_t word)
 {
-    static const char *const NAMES[KELUBASHI_CHECK_ROW] = {
-        "mu", "x", "y", "z", "vx", "vy", "vz", "tau", "psi",
-        "end x", "end y", "end z", "end vx", "end vy", "end vz", "end ax", "end ay", "end az"
-    };
-
-    return NAMES[word];
+    return LAYOUT.section[0].words[word];
 }
 
 static size_t row_place(size_t row)
@@ -41,29 +44,17 @@ void copy_row(const struct row_file *rows, size_t row, uint64_t *words)
 
 /* ---- a file that was read ---- */
 
-/* What stands at the byte at which a file is refused: a count above the limit is refused itself, before any row. */
-static void describe(const struct row_file *rows, uint64_t place, char *text, size_t size)
-{
-    if (place < row_place(0))
-        snprintf(text, size, "the count of rows");
-    else if (place >= row_place(row_count(rows)))
-        snprintf(text, size, "behind the last row");
-    else
-        snprintf(text, size, "%s of row %" PRIu64, row_word_name((place - row_place(0)) / 8 % KELUBASHI_CHECK_ROW),
-                 (place - row_place(0)) / ROW_BYTES);
-}
-
 /* A file refused by 21, 23 or 25 has a place; any other number is the library's own trouble. */
 static void say_refused_rows(const struct row_file *rows, uint64_t refusal, uint64_t place)
 {
-    char text[64];
+    char text[PLACE_TEXT];
 
     if (refusal != 21 && refusal != 23 && refusal != 25) {
         say_refused(refusal, "%s: the library's verdicts are", rows->name);
         return;
     }
-    describe(rows, place, text, sizeof text);
-    say_refused(refusal, "%s: at byte %" PRIu64 ", %s:", rows->name, place, text);
+    describe_byte(&LAYOUT, rows->bytes, rows->length, place, text, sizeof text);
+    say_refused(refusal, "%s: %s:", rows->name, text);
 }
 
 int take_rows(const char *name, struct row_file *rows)

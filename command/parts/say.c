@@ -35,10 +35,15 @@ void say(const char *format, ...)
     fputc('\n', stderr);
 }
 
+void put_refusal(FILE *stream, uint64_t number)
+{
+    fprintf(stream, "refused (%" PRIu64 "): %s", number, kelubashi_refusal_text(number));
+}
+
 void put_refused(FILE *stream, uint64_t number)
 {
-    fprintf(stream, "refused (%" PRIu64 "): %s; %s\n", number, kelubashi_refusal_text(number),
-            kelubashi_refusal_advice(number));
+    put_refusal(stream, number);
+    fprintf(stream, "; %s\n", kelubashi_refusal_advice(number));
 }
 
 void say_refused(uint64_t number, const char *format, ...)

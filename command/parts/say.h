@@ -17,6 +17,9 @@ void say(const char *format, ...);
 void say_unread(const char *name, int reason);
 void say_unwritten(const char *name, int reason);
 
+/* "refused (NUMBER): in words". */
+void put_refusal(FILE *stream, uint64_t number);
+
 /* "refused (NUMBER): in words; what to do", to the end of a line. */
 void put_refused(FILE *stream, uint64_t number);
 

@@ -16,6 +16,12 @@ static int is_option(const char *word)
            strncmp(word, "-inf", 4) != 0 && strncmp(word, "-nan", 4) != 0;
 }
 
+/* Whether it takes this besides. */
+static int takes(const struct subcommand *subcommand, int what)
+{
+    return (subcommand->besides & what) != 0;
+}
+
 /* What is wrong with an option. */
 static enum words bad_option(const struct subcommand *subcommand, const char *option, const char *wrong)
 {
@@ -66,21 +72,27 @@ static enum words take_long(const struct subcommand *subcommand, int count, char
 
     if (strcmp(word, "--help") == 0)
         return WORDS_ASK_FOR_HELP;
-    if ((subcommand->long_options & TAKES_ANY_BITS) != 0 && strcmp(word, "--any-bits") == 0) {
+    if (takes(subcommand, TAKES_ANY_BITS) && strcmp(word, "--any-bits") == 0) {
         call->any_bits = 1;
         return WORDS_GOOD;
     }
-    if ((subcommand->long_options & TAKES_FROM) != 0 && strcmp(word, "--from") == 0)
+    if (takes(subcommand, TAKES_ALL) && strcmp(word, "--all") == 0) {
+        call->all = 1;
+        return WORDS_GOOD;
+    }
+    if (takes(subcommand, TAKES_FROM) && strcmp(word, "--from") == 0)
         return take_from(subcommand, count, words, call);
     return bad_option(subcommand, word, NO_OPTION);
 }
 
-/* As many operands as the subcommand takes. */
+/* As many operands as the subcommand takes, or more where it takes more. */
 static enum words count_operands(const struct subcommand *subcommand, const struct call *call)
 {
-    if (call->operand_count == subcommand->operands)
+    int more = call->operand_count > subcommand->operands;
+
+    if (call->operand_count == subcommand->operands || (more && takes(subcommand, TAKES_MORE)))
         return WORDS_GOOD;
-    if (call->operand_count > subcommand->operands)
+    if (more)
         say("'%s' is one word too many: usage: kelubashi %s %s", shown(call->operands[subcommand->operands]),
             subcommand->name, subcommand->takes);
     else

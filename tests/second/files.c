@@ -33,16 +33,6 @@ static uint64_t put_word(uint8_t *bytes, uint64_t place, uint64_t word)
 
 /* ---- reader ---- */
 
-/* 22: the edition is not 1. */
-static int take_edition(struct walk *w)
-{
-    uint64_t place = w->place, edition;
-
-    if (!sec_take_word(w, &edition))
-        return 0;
-    return edition == EDITION || sec_refuse(w, 22, place);
-}
-
 /* A section begins at its count word. */
 static int take_count(struct walk *w, uint64_t limit, struct section *section)
 {
@@ -99,8 +89,8 @@ static struct refusal read_file(const uint8_t *file, uint64_t len,
 {
     struct walk w = sec_walk(file, len);
 
-    (void)(take_edition(&w) && take_centres(&w, c) && take_states(&w, c)
-           && take_requests(&w, c) && sec_take_end(&w));
+    (void)(sec_take_edition(&w, EDITION) && take_centres(&w, c)
+           && take_states(&w, c) && take_requests(&w, c) && sec_take_end(&w));
     return w.refusal;
 }
 

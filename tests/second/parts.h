@@ -156,6 +156,7 @@ struct walk sec_walk(const uint8_t *file, uint64_t len); /* at its first byte */
 int sec_refuse(struct walk *w, uint64_t number, uint64_t place); /* 0 */
 /* Each of these answers 1 and the walk goes on, or 0 with the refusal noted. */
 int sec_take_word(struct walk *w, uint64_t *word);
+int sec_take_edition(struct walk *w, uint64_t edition);
 int sec_take_count(struct walk *w, uint64_t limit, uint64_t *count);
 int sec_take_floats(struct walk *w, uint64_t count);
 int sec_take_end(struct walk *w);

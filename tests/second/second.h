@@ -50,6 +50,20 @@ uint64_t second_check(const uint8_t *file, size_t length,
                       uint64_t *verdicts, size_t k,
                       uint64_t *answer, size_t n);
 
+/* Two result files: edition 1, a count of 0 to 1500, then 11 words a row, which
+ * are refusal or 0, points, position, velocity, end acceleration.
+ * rows: 19 words a row, its kind (0 both answered, 1 refused on the left alone,
+ * 2 on the right alone, 3 on both with one number, 4 on both with two), then
+ * for each of the nine figures a kind (0 distance, 1 equal bits, 2 unequal
+ * bits, 3 none) and a distance; those of its k words behind them stay.
+ * n = 7: number, side of the refusal (0 left, 1 right), its place or for 26 the
+ * words needed, then the row count, and row, word and distance of the first
+ * largest, which are the row count, 11 and 0 where no figure has a distance. */
+uint64_t second_compare(const uint8_t *left, size_t left_length,
+                        const uint8_t *right, size_t right_length,
+                        uint64_t *rows, size_t k,
+                        uint64_t *answer, size_t n);
+
 /* The summary beside the states.  words = 4000, a section of 500 records with
  * the first count of them in use; k = four times centres, for each centre the
  * states with an epoch that is a number, those with a NaN, earliest, latest.

@@ -1,6 +1,6 @@
 /* Self-test: the document's marked cases, its "Run:" cases, every bad figure,
  * every refusal of the files and of the summary, the physics on random orbits,
- * and rows to be checked, right ones and wrong ones.
+ * rows to be checked, right ones and wrong ones, and files to be compared.
  * Expectations come from the documents' rules and from mechanics, never from a
  * run of this program. */
 #include "selftest.h"
@@ -146,6 +146,9 @@ int main(void)
     selftest_anomaly();
     selftest_edges();
     selftest_row_file();
+    selftest_steps();
+    selftest_compare();
+    selftest_two_files();
     printf("second program: %lu checks, %lu faults\n", checks, faults);
     return faults != 0;
 }

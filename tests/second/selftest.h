@@ -59,5 +59,8 @@ void selftest_checked(void);
 void selftest_anomaly(void);
 void selftest_edges(void);
 void selftest_row_file(void);
+void selftest_steps(void);
+void selftest_compare(void);
+void selftest_two_files(void);
 
 #endif

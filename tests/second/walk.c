@@ -48,6 +48,16 @@ int sec_take_word(struct walk *w, uint64_t *word)
     return 1;
 }
 
+/* 22: another edition. */
+int sec_take_edition(struct walk *w, uint64_t edition)
+{
+    uint64_t place = w->place, word;
+
+    if (!sec_take_word(w, &word))
+        return 0;
+    return word == edition || sec_refuse(w, 22, place);
+}
+
 /* 23: a count above its limit. */
 int sec_take_count(struct walk *w, uint64_t limit, uint64_t *count)
 {

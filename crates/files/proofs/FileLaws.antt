@@ -11,11 +11,12 @@ use Rattle.files_sections.specs.declared.sections.Section.{Section}
 use Rattle.files_sections.specs.declared.sections.Section.the-variants.{Centres, States, Requests}
 use Rattle.files_sections.specs.declared.checks.Check.{Check}
 use Rattle.files_sections.specs.declared.checks.Check.the-variants.{Sound}
-use Rattle.files_sections.specs.Sections.{widthOf, sectionCheck, centresPlace, statesPlace, requestsPlace, endPlace}
-use Rattle.files_sections.specs.Checks.{_⟫_, endCheck}
+use Rattle.files_sections.specs.Sections.{elementEdition, widthOf, sectionCheck, centresPlace, statesPlace, requestsPlace, endPlace}
+use Rattle.files_sections.specs.Checks.{_⟫_, editionCheck, endCheck}
 use Rattle.files_sections.proofs.CheckLaws.{both, sound-both, sound-need}
 use Rattle.files_sections.proofs.RecordLaws.{limit-bound}
-use Rattle.files_reader.specs.Reader.{editionCheck, fileCheck}
+use Rattle.files_sections.proofs.CountedLaws.{sound-edition}
+use Rattle.files_reader.specs.Reader.{fileCheck}
 use Rattle.files_reader.proofs.Accepted.{edition-sound, centres-sound, states-sound, requests-sound, sound-length}
 use Rattle.files.specs.Writer.{recordsIn, wholeCheck, wholeChecks, limitChecks, numberCheck, numberChecks, sizeOf, writeCheck, sectionWords, fileWords, fileOf}
 use Rattle.files.proofs.WriteLaws.{fits, numbers-sound}
@@ -240,13 +241,12 @@ module _ (C S R : List ℕ) (c s r : ℕ) (p : ProperFile C S R c s r) (bc : Bel
   pub requests-held : runAt file (requestsPlace c s) Requests ≡ R
   requests-held = found-run file (requestsPlace c s) Requests s r R [] (room-8 .2) at-requests (p .third)
 
-  edition : editionCheck file ≡ Sound
-  unfolding editionCheck
+  edition : editionCheck file elementEdition ≡ Sound
   edition =
       let whole : 8 ≤ length file = omega (arith, file-length) in
       let first : wordAt file 0 ∷ wordsFrom file 8 ≡ 1 ∷ (sectionWords Centres C ++ rest) = sym (next-word file 0 whole) ∙ at-edition in
       let one : wordAt file 0 ≡ 1 = cc first in
-      sound-both _ _ (sound-need _ 21 0 (le-leb _ _ whole)) (sound-need _ 22 0 (eq-eqb (wordAt file 0) 1 one))
+      sound-edition file elementEdition whole one
 
   pub file-sound : fileCheck file ≡ Sound
   unfolding fileCheck
@@ -254,14 +254,14 @@ module _ (C S R : List ℕ) (c s r : ℕ) (p : ProperFile C S R c s r) (bc : Bel
       let end : length file ≤ endPlace c s r = omega (arith, file-length) in
       let checks : ℕ → ℕ → ℕ → Check =
       λ c s r.
-      editionCheck file
+      editionCheck file elementEdition
       ⟫ sectionCheck file centresPlace Centres 0
       ⟫ sectionCheck file (statesPlace c) States c
       ⟫ sectionCheck file (requestsPlace c s) Requests s
       ⟫ endCheck file (endPlace c s r)
       in
       (λ i. checks (counts-are .0 i) (counts-are .1 i) (counts-are .2 i))
-      ∙ sound-both (editionCheck file) _ edition
+      ∙ sound-both (editionCheck file elementEdition) _ edition
       (sound-both (sectionCheck file centresPlace Centres 0) _ (found-sound file 8 Centres 0 c C rest (room-8 .0) at-centres (p .first))
       (sound-both (sectionCheck file (statesPlace c) States c) _
       (found-sound file (statesPlace c) States c s S (sectionWords Requests R) (room-8 .1) at-states (p .second))

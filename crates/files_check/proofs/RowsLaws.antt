@@ -12,9 +12,7 @@ use Rattle.bits.specs.Choice.{pick}
 use Rattle.files_words.specs.Bytes.{words, wordsFrom, Below}
 use Rattle.files_words.proofs.WordLaws.{length-as-bytes, words-as-bytes, words-later, word-of-words, below-append}
 use Rattle.files_sections.specs.declared.checks.Check.the-variants.{Sound}
-use Rattle.files_sections.specs.declared.checks.Rule.the-variants.{Any}
-use Rattle.files_sections.specs.Checks.{walk, countCheck, countedCheck, endCheck, rulingOf}
-use Rattle.files_sections.proofs.CheckLaws.{sound-both, sound-need}
+use Rattle.files_sections.proofs.CountedLaws.{sound-filled}
 use Rattle.states_check.proofs.RowLaws.{accepts-own}
 use Rattle.files_check.specs.RowsFile.{mostRows, rowWords, countPlace, rowPlace, rowsIn, rowsCheck, fieldsAt, givenAt, proposedAt, nineAt, verdictOf, verdictAt, verdictsOf, judgedOf, judgedBy, verdictsAfter, verdictsBy}
 use Rattle.files_check.specs.RowsPromise.{Row, wordsIn, IsRow, AreRows, allWords, fileOf, verdictOn, JudgesRows, OurRowsPass}
@@ -34,13 +32,6 @@ all-length (r ∷ rs) h = length-append (wordsIn r) (allWords rs) ∙ omega (ari
 all-below : (rows : List Row) → AreRows rows → Below (2 ^ 64) (allWords rows)
 all-below [] h = tt
 all-below (r ∷ rs) h = below-append (2 ^ 64) (wordsIn r) (allWords rs) (h .0 .are-words) (all-below rs (h .1))
-
--- Words of any bits are sound, as many as there are.
-walk-any : (place : ℕ) (before : List ℕ) (left : ℕ) (ws : List ℕ) → left ≤ length ws → walk (rulingOf Any) place before left ws ≡ Sound
-unfolding walk
-walk-any place before zero ws h = refl
-walk-any place before (suc left) [] h = absurd (omega arith)
-walk-any place before (suc left) (w ∷ ws) h = walk-any (place + 8) (before ++ (w ∷ [])) left ws (omega arith)
 
 -- ---- The file.
 module _ (rows : List Row) (are : AreRows rows) (few : length rows ≤ mostRows) where
@@ -66,21 +57,10 @@ module _ (rows : List Row) (are : AreRows rows) (few : length rows ≤ mostRows)
   rest-here : wordsFrom file 8 ≡ allWords rows
   rest-here = words-later file 0 1 ∙ ap (drop 1) all-here
 
-  counted : countCheck file countPlace mostRows ≡ Sound
-  unfolding countCheck
-  counted =
-      sound-both _ _ (sound-need _ 21 0 (le-leb (countPlace + 8) (length file) (omega (arith, file-length))))
-      (sound-need _ 23 0 (le-leb (rowsIn file) mostRows (omega (arith, count-here, few))))
-
-  walked : walk (rulingOf Any) 8 [] (rowsIn file * rowWords) (wordsFrom file 8) ≡ Sound
-  walked = walk-any 8 [] (rowsIn file * rowWords) (wordsFrom file 8) (omega (arith, count-here, ap length rest-here, all-length rows are))
-
-  ended : endCheck file (rowPlace (rowsIn file)) ≡ Sound
-  ended = sound-need _ 25 (rowPlace (rowsIn file)) (le-leb (length file) (rowPlace (rowsIn file)) (omega (arith, file-length, count-here)))
-
   sound : rowsCheck file ≡ Sound
-  unfolding rowsCheck countedCheck
-  sound = sound-both _ _ (sound-both (countCheck file countPlace mostRows) _ counted walked) ended
+  unfolding rowsCheck
+  sound =
+      sound-filled file countPlace mostRows rowWords (omega (arith, file-length)) (omega (arith, count-here, few)) (omega (arith, file-length, count-here))
 
 -- So many words of the record at a place, from one of them on.
 fields-are : (file : List ℕ) (place from count : ℕ) → from + count ≤ length (wordsFrom file place) → fieldsAt file place from count ≡ take count (drop from (wordsFrom file place))

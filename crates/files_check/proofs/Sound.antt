@@ -5,26 +5,20 @@ use mathlib.Core.Bool.{Bool, true, false}
 use mathlib.Core.Logic.{_⊎_, inl, inr}
 use mathlib.Core.List.{List}
 use native.Mathlib.Omega.{arith}
-use borrow.Author.Tests.{leb-true}
 use lib.Dec.{leb}
 use lib.ListN.{length}
 use Rattle.bits.specs.Choice.{pick}
 use Rattle.files_sections.specs.declared.checks.Check.{Check}
 use Rattle.files_sections.specs.declared.checks.Check.the-variants.{Sound, Fault}
-use Rattle.files_sections.specs.declared.checks.Rule.the-variants.{Any}
-use Rattle.files_sections.specs.Checks.{rulingOf}
-use Rattle.files_sections.proofs.CheckLaws.{both, needed}
-use Rattle.files_sections.proofs.CountedLaws.{count-within, words-within}
-use Rattle.files_check.specs.RowsFile.{mostRows, rowWords, countPlace, rowPlace, rowsIn, rowsCheck, judgedBy, judgedOf, withVerdicts, verdictsBy, verdictsAfter}
+use Rattle.files_sections.proofs.CountedLaws.{filled-sound}
+use Rattle.files_check.specs.RowsFile.{mostRows, rowWords, countPlace, rowsIn, rowsCheck, judgedBy, judgedOf, withVerdicts, verdictsBy, verdictsAfter}
 use Rattle.files_check.specs.RowsPromise.{SoundSo, KeptOrJudged}
 
 pub sound-so : SoundSo
 unfolding rowsCheck
 sound-so file e =
-    let b = both _ _ e in
-    let within = words-within file countPlace mostRows rowWords (rulingOf Any) (b .0) in
-    let end = leb-true (length file) (rowPlace (rowsIn file)) (needed _ _ _ (b .1)) in
-    record { few = count-within file countPlace mostRows rowWords (rulingOf Any) (b .0); size = omega (arith, within, end) }
+    let filled = filled-sound file countPlace mostRows rowWords e in
+    record { few = filled .0; size = omega (arith, filled .1) }
 
 pub few-rows : (file : List ℕ) → rowsCheck file ≡ Sound → rowsIn file ≤ mostRows
 few-rows file e = sound-so file e .few

@@ -22,7 +22,7 @@ use Rattle.states_start.specs.Initial.{dot, begunOf, firstStepOf}
 use Rattle.states.specs.Call.{reachedFound, reachedOverBy, reachedFromBy, reachedOrbitBy, reachedWordsBy}
 use Rattle.states_check.specs.Row.{acceptsAt, accepts}
 use Rattle.files_words.specs.Bytes.{numberOf, bytesOf, asBytes, words, wordsFrom, wordAt}
-use Rattle.files_sections.specs.Checks.{walk, countCheck, countedCheck}
+use Rattle.files_sections.specs.Checks.{walk, countCheck, countedCheck, filledCheck}
 use Rattle.files_check.specs.RowsFile.{rowsCheck, fieldsAt, verdictOf, verdictsOf, judgedOf, verdictsAfter}
 use Rattle.files_check.specs.declared.Judged.{Judged}
 
@@ -125,7 +125,7 @@ after (c ∷ cs) = c .verdict ∷ after cs
 
 -- Each row of the table, in one file, has its verdict.
 pub marked : verdictsAfter (asBytes (length table ∷ rowsOf table)) (before table) ≡ after table
-unfolding verdictsAfter rowsCheck countedCheck countCheck walk words wordsFrom wordAt numberOf bytesOf asBytes verdictsOf verdictOf fieldsAt accepts acceptsAt reachedWordsBy reachedOrbitBy reachedFromBy reachedOverBy reachedFound intervalOf withoutRevolutions withoutN asItIs floorOf courseOf isClosed isUsable revolutionOf ofInt readOf begunOf dot firstStepOf endedOf figuresOf resultsOf accelerationOf arcOf endStateOf factorsOf has firstOf sameWords isRight isRightBeyondZero hasSignOf passes shortPasses pastPasses picks nearerEnd trialAt evaluatedAt sortOf anomalyAt timeErrorOf radiusOf coefficientsOf sumsOf quotientsOf doublings atReduced c4Of c5Of nested reducedFrom beyondOne rootOf rootWordOf add sub mul div neg lt eq ne ofBits toBits
+unfolding verdictsAfter rowsCheck filledCheck countedCheck countCheck walk words wordsFrom wordAt numberOf bytesOf asBytes verdictsOf verdictOf fieldsAt accepts acceptsAt reachedWordsBy reachedOrbitBy reachedFromBy reachedOverBy reachedFound intervalOf withoutRevolutions withoutN asItIs floorOf courseOf isClosed isUsable revolutionOf ofInt readOf begunOf dot firstStepOf endedOf figuresOf resultsOf accelerationOf arcOf endStateOf factorsOf has firstOf sameWords isRight isRightBeyondZero hasSignOf passes shortPasses pastPasses picks nearerEnd trialAt evaluatedAt sortOf anomalyAt timeErrorOf radiusOf coefficientsOf sumsOf quotientsOf doublings atReduced c4Of c5Of nested reducedFrom beyondOne rootOf rootWordOf add sub mul div neg lt eq ne ofBits toBits
 marked = refl
 
 -- ---- Files.
@@ -169,5 +169,5 @@ abbrev mustBe : FileCase → Judged
 mustBe c = record { number = c .number; «place_or_rows» = c .second }
 
 pub marked-files : map (λ (c : FileCase). judgedOf (c .file) (c .room)) files ≡ map mustBe files
-unfolding judgedOf rowsCheck countedCheck countCheck walk words wordsFrom wordAt numberOf bytesOf asBytes
+unfolding judgedOf rowsCheck filledCheck countedCheck countCheck walk words wordsFrom wordAt numberOf bytesOf asBytes
 marked-files = refl

@@ -7,8 +7,7 @@ use Rattle.bits.specs.Choice.{pick}
 use Rattle.files_words.specs.Bytes.{wordAt}
 use Rattle.files_sections.specs.declared.checks.Check.{Check}
 use Rattle.files_sections.specs.declared.checks.Check.the-variants.{Sound, Fault}
-use Rattle.files_sections.specs.declared.checks.Rule.the-variants.{Any}
-use Rattle.files_sections.specs.Checks.{_⟫_, countedCheck, endCheck, rulingOf}
+use Rattle.files_sections.specs.Checks.{filledCheck}
 use Rattle.states_check.specs.Row.{accepts}
 use Rattle.files_check.specs.declared.Judged.{Judged}
 
@@ -31,8 +30,8 @@ rowsIn file = wordAt file countPlace
 
 -- "21, 23, 25 as for element files": the count, as many rows, whose words may hold any bits, and the end.
 unfoldable pub rowsCheck : List ℕ → Check
-unfolding countedCheck wordAt
-rowsCheck file = countedCheck file countPlace mostRows rowWords (rulingOf Any) ⟫ endCheck file (rowPlace (rowsIn file))
+unfolding filledCheck
+rowsCheck file = filledCheck file countPlace mostRows rowWords
 
 -- ---- "eight input words, a proposed anomaly and the nine end figures": so many words of the record at a place, from one of them on.
 unfoldable pub fieldsAt : List ℕ → (place from count : ℕ) → List ℕ

@@ -5,9 +5,7 @@ ghost use lib.ListN.{length};
 ghost use Rattle.files_words.specs.Bytes.{wordAt};
 ghost use Rattle.files_check.specs.RowsFile.{mostRows, rowPlace, rowsIn, rowsCheck, givenAt, nineAt, verdictOf, verdictAt, judgedBy, judgedOf, withVerdicts, verdictsBy, verdictsAfter};
 use files_sections::Check;
-use files_sections::Rule;
-use files_sections::check_counted;
-use files_sections::need;
+use files_sections::check_filled;
 use files_words::word_at;
 
 // The most rows that a file may have, and the words of a row.
@@ -23,7 +21,7 @@ pub struct Judged {
     pub place_or_rows: usize,
 }
 
-// Where row k stands, and where a file of k rows ends.
+// Where row k stands.
 fn row_place(k: usize) -> usize
     requires { ⌜ k ≤ mostRows ⌝ }
     ensures { λ r. ⌜ r ≡ rowPlace k ⌝ }
@@ -35,12 +33,7 @@ fn row_place(k: usize) -> usize
 fn check_rows(file: &[u8]) -> Check
     ensures { λ r. ⌜ r ≡ rowsCheck (now (file .entry)) ⌝ }
 {
-    let counted = check_counted(file, COUNT_PLACE, MOST_ROWS, ROW_WORDS, Rule::Any);
-    let Check::Sound = counted else {
-        return counted;
-    };
-    let end = row_place(word_at(file, COUNT_PLACE) as usize);
-    need(file.len() <= end, 25, end)
+    check_filled(file, COUNT_PLACE, MOST_ROWS, ROW_WORDS)
 }
 
 // Word n of the row at a place.

@@ -3,7 +3,7 @@ use Prim.Native.Nat.{ℕ, _≤_}
 use native.Mathlib.Omega.{arith}
 use mathlib.Core.Path.{_≡_, refl, subst}
 use mathlib.Core.List.{List}
-use borrow.Author.Tests.{leb-true, eqb-true}
+use borrow.Author.Tests.{leb-true}
 use lib.ListN.{length}
 use Rattle.files_words.specs.Bytes.{wordAt}
 use Rattle.files_sections.specs.declared.sections.Section.the-variants.{Centres, States, Requests}
@@ -11,11 +11,11 @@ use Rattle.files_sections.specs.declared.checks.Check.{Check}
 use Rattle.files_sections.specs.declared.checks.Check.the-variants.{Sound, Fault}
 use Rattle.files_sections.specs.Sections.{elementEdition, sectionCheck, centresPlace, statesPlace, requestsPlace, endPlace}
 use Rattle.files_sections.proofs.CheckLaws.{both, needed}
-use Rattle.files_sections.proofs.CountedLaws.{count-within, words-within}
-use Rattle.files_sections.specs.Checks.{endCheck}
+use Rattle.files_sections.proofs.CountedLaws.{count-within, words-within, edition-is}
+use Rattle.files_sections.specs.Checks.{editionCheck, endCheck}
 use Rattle.files_reader.specs.declared.Places.{Places}
 use Rattle.files_reader.specs.declared.Reading.the-variants.{Sections}
-use Rattle.files_reader.specs.Reader.{editionCheck, fileCheck, sectionsOf, readingBy, readingOf, longestFile}
+use Rattle.files_reader.specs.Reader.{fileCheck, sectionsOf, readingBy, readingOf, longestFile}
 
 -- ---- A file that is sound.
 module _ (file : List ℕ) (sound : fileCheck file ≡ Sound) where
@@ -28,7 +28,7 @@ module _ (file : List ℕ) (sound : fileCheck file ≡ Sound) where
   abbrev requests : ℕ
   requests = wordAt file (requestsPlace centres states)
 
-  parts : (editionCheck file ≡ Sound)
+  parts : (editionCheck file elementEdition ≡ Sound)
       × (sectionCheck file centresPlace Centres 0 ≡ Sound)
       × (sectionCheck file (statesPlace centres) States centres ≡ Sound)
       × (sectionCheck file (requestsPlace centres states) Requests states ≡ Sound)
@@ -42,10 +42,7 @@ module _ (file : List ℕ) (sound : fileCheck file ≡ Sound) where
       (e .0, c .0, s .0, r .0, r .1)
 
   pub edition-sound : (8 ≤ length file) × (wordAt file 0 ≡ elementEdition)
-  unfolding editionCheck
-  edition-sound =
-      let b = both _ _ (parts .0) in
-      (leb-true _ _ (needed _ _ _ (b .0)), eqb-true _ _ (needed _ _ _ (b .1)))
+  edition-sound = edition-is file elementEdition (parts .0)
 
   pub centres-sound : sectionCheck file centresPlace Centres 0 ≡ Sound
   centres-sound = parts .1

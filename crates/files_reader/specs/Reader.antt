@@ -3,23 +3,16 @@
 -- with it. The place of a refusal is the first byte of the word at fault, for 25 the first byte left."
 use Prim.Native.Nat.{ℕ, zero, suc}
 use mathlib.Core.List.{List, [], _∷_}
-use lib.Dec.{leb, eqb}
-use lib.ListN.{length}
 use Rattle.files_words.specs.Bytes.{wordAt}
 use Rattle.files_sections.specs.declared.sections.Section.{Section}
 use Rattle.files_sections.specs.declared.sections.Section.the-variants.{Centres, States, Requests}
 use Rattle.files_sections.specs.declared.checks.Check.{Check}
 use Rattle.files_sections.specs.declared.checks.Check.the-variants.{Sound, Fault}
-use Rattle.files_sections.specs.Checks.{need, _⟫_, countedCheck, endCheck}
+use Rattle.files_sections.specs.Checks.{_⟫_, editionCheck, countedCheck, endCheck}
 use Rattle.files_sections.specs.Sections.{limitOf, elementEdition, sectionCheck, after, centresPlace, statesPlace, requestsPlace, endPlace}
 use Rattle.files_reader.specs.declared.Places.{Places}
 use Rattle.files_reader.specs.declared.Reading.{Reading}
 use Rattle.files_reader.specs.declared.Reading.the-variants.{Sections, Refused}
-
--- "the edition, 1": the first word.
-unfoldable pub editionCheck : List ℕ → Check
-unfolding wordAt
-editionCheck file = need (leb 8 (length file)) 21 0 ⟫ need (eqb (wordAt file 0) elementEdition) 22 0
 
 -- "at most 56,160 bytes": every section at its limit.
 abbrev pub longestFile : ℕ
@@ -32,7 +25,7 @@ fileCheck file =
     let centres = wordAt file centresPlace in
     let states = wordAt file (statesPlace centres) in
     let requests = wordAt file (requestsPlace centres states) in
-    editionCheck file
+    editionCheck file elementEdition
     ⟫ sectionCheck file centresPlace Centres 0
     ⟫ sectionCheck file (statesPlace centres) States centres
     ⟫ sectionCheck file (requestsPlace centres states) Requests states

@@ -1,17 +1,16 @@
 // Layer 5: the reader of an element file: walks it forward and answers where its sections stand, or the first fault.
 ghost use mathlib.Core.Path.{_≡_};
 ghost use Rattle.files_sections.specs.Sections.{sections, sectionCheck, centresPlace};
-ghost use Rattle.files_reader.specs.Reader.{sectionAt, editionCheck, sectionsCheck, fileCheck, sectionsOf, readingOf};
+ghost use Rattle.files_reader.specs.Reader.{sectionAt, sectionsCheck, fileCheck, sectionsOf, readingOf};
 use files_sections::CENTRES_PLACE;
 use files_sections::Check;
 use files_sections::ELEMENT_EDITION;
 use files_sections::Section;
 use files_sections::check_counted;
-use files_sections::first;
+use files_sections::check_edition;
 use files_sections::need;
 use files_sections::requests_place;
 use files_sections::states_place;
-use files_words::is_whole;
 use files_words::word_at;
 
 // The bytes of the longest file that can be accepted (`accepted-length`).
@@ -34,16 +33,6 @@ pub struct Places {
 pub enum Reading {
     Sections(Places),
     Refused { number: u64, place: usize },
-}
-
-// The edition.
-fn check_edition(file: &[u8]) -> Check
-    ensures { λ r. ⌜ r ≡ editionCheck (now (file .entry)) ⌝ }
-{
-    first(
-        need(is_whole(file, 0), 21, 0),
-        need(word_at(file, 0) == ELEMENT_EDITION, 22, 0),
-    )
 }
 
 // Which section stands at an index in the order of the file.
@@ -94,7 +83,7 @@ fn check_sections(file: &[u8]) -> Check
 fn check_file(file: &[u8]) -> Check
     ensures { λ r. ⌜ r ≡ fileCheck (now (file .entry)) ⌝ }
 {
-    let edition = check_edition(file);
+    let edition = check_edition(file, ELEMENT_EDITION);
     let Check::Sound = edition else {
         return edition;
     };

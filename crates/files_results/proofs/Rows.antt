@@ -19,7 +19,8 @@ use Rattle.files_words.proofs.WordLaws.{length-as-bytes, as-bytes-append}
 use Rattle.files_words.proofs.PutLaws.{put-next, put-outside, length-put}
 use Rattle.files_reader.specs.declared.Places.{Places}
 use Rattle.files_results.specs.Requests.{requestWords}
-use Rattle.files_results.specs.Results.{resultEdition, rowWords, rowPlace, rowOf, refusedRow, RowsName, rowsOf, sectionsWords, outcomeIn, withRow, withRows}
+use Rattle.files_sections.specs.ResultLayout.{resultEdition, rowWords, rowPlace}
+use Rattle.files_results.specs.Results.{rowOf, refusedRow, RowsName, rowsOf, sectionsWords, outcomeIn, withRow, withRows}
 
 -- ---- Rows.
 pub row-length : (words : List ℕ) → length (rowOf words) ≡ rowWords

@@ -2,7 +2,7 @@
 -- file gives three words: 1, 0, its number."
 use mathlib.Core.Path.{_≡_, refl}
 use mathlib.Core.List.{List, [], _∷_, _++_}
-use Prim.Native.Nat.{ℕ, zero, suc, _+_, _*_, _<_}
+use Prim.Native.Nat.{ℕ, zero, suc, _<_}
 use lib.Dec.{leb}
 use lib.ListN.{length, take, getD}
 use Rattle.bits.specs.Choice.{pick}
@@ -11,6 +11,7 @@ use Rattle.states.specs.Call.{answerWords, propagateOf}
 use Rattle.files_words.specs.Bytes.{asBytes, put}
 use Rattle.files_sections.specs.declared.sections.Section.the-variants.{Requests}
 use Rattle.files_sections.specs.Sections.{limitOf}
+use Rattle.files_sections.specs.ResultLayout.{resultEdition, rowWords, rowPlace}
 use Rattle.files_reader.specs.Reader.{readingOf}
 use Rattle.files_reader.specs.declared.Places.{Places}
 use Rattle.files_reader.specs.declared.Reading.{Reading}
@@ -22,22 +23,9 @@ use Rattle.files_results.specs.declared.Outcome.{Outcome}
 abbrev pub Accepted : List ℕ → Places → Type 0
 Accepted file places = readingOf file ≡ reading.Sections places
 
--- ---- How a result file is laid out: its edition and the request count, then eleven words a request; or three words.
-abbrev pub resultEdition : ℕ
-resultEdition = 1
-
-abbrev pub headWords : ℕ
-headWords = 2
-
-abbrev pub rowWords : ℕ
-rowWords = 11
-
+-- ---- How long a result file can be, by the most requests that an element file can have; and the words that a refused file gives.
 abbrev pub refusedWords : ℕ
 refusedWords = 3
-
--- Where row k stands; and how long a result file can be, by the most requests that an element file can have.
-abbrev pub rowPlace : ℕ → ℕ
-rowPlace k = 8 * (headWords + rowWords * k)
 
 abbrev pub longestResult : ℕ
 longestResult = rowPlace (limitOf Requests)

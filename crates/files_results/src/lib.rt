@@ -5,22 +5,20 @@ ghost use lib.ListN.{length};
 ghost use Rattle.files_words.specs.Bytes.{asBytes, put};
 ghost use Rattle.files_sections.specs.declared.sections.Section.the-variants.{Requests};
 ghost use Rattle.files_sections.specs.Sections.{limitOf};
-ghost use Rattle.files_results.specs.Results.{Accepted, rowPlace, sectionsWords, refusedFile, resultFile, outcomeIn, outcomeOf, withRow, withRows};
+ghost use Rattle.files_sections.specs.ResultLayout.{rowPlace};
+ghost use Rattle.files_results.specs.Results.{Accepted, sectionsWords, refusedFile, resultFile, outcomeIn, outcomeOf, withRow, withRows};
 use files_reader::Places;
 use files_reader::Reading;
 use files_sections::MOST_REQUESTS;
+use files_sections::results::HEAD_WORDS;
+use files_sections::results::RESULT_EDITION;
+use files_sections::results::ROW_WORDS;
 use files_words::put_words;
 
 pub mod requests;
 
 pub use requests::request_words;
 
-// The edition, a result file's first word.
-pub const RESULT_EDITION: u64 = 1;
-// The words before the first row: the edition and the request count.
-pub const HEAD_WORDS: usize = 2;
-// The words of a row.
-pub const ROW_WORDS: usize = 11;
 // The words that a refused file gives.
 pub const REFUSED_WORDS: usize = 3;
 // The bytes of the longest result file, that of the most requests.

@@ -34,3 +34,8 @@ sound-need holds number place e = ap (λ (b : Bool). need b number place) e
 pub needed : (holds : Bool) (number place : ℕ) → need holds number place ≡ Sound → holds ≡ true
 needed true number place e = refl
 needed false number place e = fault-is-not-sound e
+
+-- Three checks, the last two together or the first two.
+pub in-a-row : (a b c : Check) → ((a ⟫ b) ⟫ c) ≡ (a ⟫ (b ⟫ c))
+in-a-row Sound b c = refl
+in-a-row (Fault number place) b c = refl

@@ -1,16 +1,20 @@
 -- A counted section that is sound, in a file: its count is within its limit, and all its words are there and keep the rule.
-use Prim.Native.Nat.{ℕ, _+_, _*_, _≤_}
+use Prim.Native.Nat.{ℕ, _+_, _*_, _^_, _<_, _≤_}
+use native.Mathlib.Nat.{mul-le-mul}
 use native.Mathlib.Omega.{arith}
-use mathlib.Core.Path.{_≡_}
+use mathlib.Core.Bool.{Bool}
+use mathlib.Core.Path.{_≡_, ap, ap₂, _∙_}
 use mathlib.Core.List.{List, []}
-use borrow.Author.Tests.{leb-true}
+use borrow.Author.Tests.{leb-true, le-leb, lt-leb, eqb-true, eq-eqb}
 use lib.ListN.{length}
 use Rattle.files_words.specs.Bytes.{wordAt, wordsFrom}
 use Rattle.files_words.proofs.WordLaws.{length-words-from}
-use Rattle.files_sections.specs.declared.checks.Check.the-variants.{Sound}
-use Rattle.files_sections.specs.Checks.{Ruling, walk, countCheck, countedCheck}
-use Rattle.files_sections.proofs.CheckLaws.{both, needed}
-use Rattle.files_sections.proofs.WalkLaws.{walk-needs}
+use Rattle.files_sections.specs.declared.checks.Check.{Check}
+use Rattle.files_sections.specs.declared.checks.Check.the-variants.{Sound, Fault}
+use Rattle.files_sections.specs.declared.checks.Rule.the-variants.{Any}
+use Rattle.files_sections.specs.Checks.{need, _⟫_, Ruling, walk, rulingOf, countCheck, countedCheck, endCheck, editionCheck, filledCheck, restCheck}
+use Rattle.files_sections.proofs.CheckLaws.{both, needed, in-a-row, sound-both, sound-need}
+use Rattle.files_sections.proofs.WalkLaws.{walk-needs, walk-any}
 
 module _ (file : List ℕ) (place limit : ℕ) where
   pub count-sound : countCheck file place limit ≡ Sound → (place + 8 ≤ length file) × (wordAt file place ≤ limit)
@@ -18,6 +22,15 @@ module _ (file : List ℕ) (place limit : ℕ) where
   count-sound e =
       let b = both _ _ e in
       (leb-true _ _ (needed _ _ _ (b .0)), leb-true _ _ (needed _ _ _ (b .1)))
+
+  -- The count word is whole, and the words of as many records are few.
+  pub few-words : (width : ℕ) {count : ℕ} → limit < 2 ^ 16 → width < 2 ^ 16 → countCheck file place limit ≡ Sound → count ≡ wordAt file place
+      → (place + 8 ≤ length file) × (count * width ≤ 2 ^ 16 * 2 ^ 16)
+  few-words width {count} l w e c =
+      let sound = count-sound e in
+      let few : count ≤ 2 ^ 16 = omega (arith, c, sound .1) in
+      let narrow : width ≤ 2 ^ 16 = omega arith in
+      (sound .0, mul-le-mul few narrow)
 
   module _ (width : ℕ) (ruling : Ruling) (sound : countedCheck file place limit width ruling ≡ Sound) where
     parts : (countCheck file place limit ≡ Sound) × (walk ruling (place + 8) [] (wordAt file place * width) (wordsFrom file (place + 8)) ≡ Sound)
@@ -38,3 +51,52 @@ module _ (file : List ℕ) (place limit : ℕ) where
 
     pub words-within : place + 8 + 8 * (wordAt file place * width) ≤ length file
     words-within = omega (arith, words-there, length-words-from file (place + 8), count-whole)
+
+-- ---- Records of any words, to the end of a file: the count, then the rest.
+module _ (file : List ℕ) (place limit width : ℕ) where
+  pub filled-is : filledCheck file place limit width ≡ (countCheck file place limit ⟫ restCheck file (place + 8) (wordAt file place * width))
+  unfolding filledCheck countedCheck
+  filled-is = in-a-row (countCheck file place limit) _ _
+
+  -- What is known of a file that passes.
+  pub filled-sound : filledCheck file place limit width ≡ Sound → (wordAt file place ≤ limit) × (length file ≡ place + 8 + 8 * (wordAt file place * width))
+  unfolding filledCheck
+  filled-sound e =
+      let b = both _ _ e in
+      let end : length file ≤ place + 8 + 8 * (wordAt file place * width) = leb-true _ _ (needed _ _ _ (b .1)) in
+      (count-within file place limit width (rulingOf Any) (b .0), omega (arith, words-within file place limit width (rulingOf Any) (b .0), end))
+
+  abbrev endOf : ℕ
+  endOf = place + 8 + 8 * (wordAt file place * width)
+
+  -- A count within its limit, and no word of the records missing: the end decides.
+  pub filled-to-end : place + 8 ≤ length file → wordAt file place ≤ limit → endOf ≤ length file → filledCheck file place limit width ≡ endCheck file endOf
+  unfolding countCheck
+  filled-to-end whole few enough =
+      let count = sound-both _ _ (sound-need _ 21 place (le-leb _ _ whole)) (sound-need _ 23 place (le-leb _ _ few)) in
+      let words = walk-any (place + 8) [] (wordAt file place * width) (wordsFrom file (place + 8)) (omega (arith, enough, length-words-from file (place + 8))) in
+      filled-is ∙ ap₂ (λ (a b : Check). a ⟫ (b ⟫ endCheck file endOf)) count words
+
+  pub sound-filled : place + 8 ≤ length file → wordAt file place ≤ limit → length file ≡ endOf → filledCheck file place limit width ≡ Sound
+  sound-filled whole few size =
+      let up-to : endOf ≤ length file = omega (arith, size) in
+      let no-more : length file ≤ endOf = omega (arith, size) in
+      filled-to-end whole few up-to ∙ sound-need _ 25 endOf (le-leb (length file) endOf no-more)
+
+  -- Bytes behind the records are 25, at the first of them.
+  pub left-behind : place + 8 ≤ length file → wordAt file place ≤ limit → endOf < length file → filledCheck file place limit width ≡ Fault 25 endOf
+  left-behind whole few more =
+      let up-to : endOf ≤ length file = omega (arith, more) in
+      filled-to-end whole few up-to ∙ ap (λ (t : Bool). need t 25 endOf) (lt-leb (length file) endOf more)
+
+-- ---- The edition, in a file.
+pub edition-is : (file : List ℕ) (edition : ℕ) → editionCheck file edition ≡ Sound → (8 ≤ length file) × (wordAt file 0 ≡ edition)
+unfolding editionCheck
+edition-is file edition e =
+    let b = both _ _ e in
+    (leb-true _ _ (needed _ _ _ (b .0)), eqb-true _ _ (needed _ _ _ (b .1)))
+
+pub sound-edition : (file : List ℕ) (edition : ℕ) → 8 ≤ length file → wordAt file 0 ≡ edition → editionCheck file edition ≡ Sound
+unfolding editionCheck
+sound-edition file edition h e =
+    sound-both _ _ (sound-need _ 21 0 (le-leb 8 (length file) h)) (sound-need _ 22 0 (eq-eqb (wordAt file 0) edition e))

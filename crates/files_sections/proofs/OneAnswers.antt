@@ -9,6 +9,10 @@ use Rattle.files_sections.proofs.checks.fault.Kinds as fault-kinds
 use Rattle.files_sections.proofs.checks.fault.Reads as fault-reads
 use Rattle.files_sections.proofs.checks.check_counted.Kinds as check-counted-kinds
 use Rattle.files_sections.proofs.checks.check_counted.Reads as check-counted-reads
+use Rattle.files_sections.proofs.checks.check_filled.Kinds as check-filled-kinds
+use Rattle.files_sections.proofs.checks.check_filled.Reads as check-filled-reads
+use Rattle.files_sections.proofs.checks.check_edition.Kinds as check-edition-kinds
+use Rattle.files_sections.proofs.checks.check_edition.Reads as check-edition-reads
 use Rattle.files_sections.proofs.sections.Section.limit.Kinds as limit-kinds
 use Rattle.files_sections.proofs.sections.Section.limit.Reads as limit-reads
 use Rattle.files_sections.proofs.sections.Section.width.Kinds as width-kinds
@@ -35,6 +39,12 @@ fault-one κs a x y v w p q = (p ∙ sym q, refl)
 
 pub check-counted-one : OneAnswer 1 check-counted-kinds.ps check-counted-kinds.r check-counted-reads.Post
 check-counted-one κs a x y v w p q = (p ∙ sym q, refl)
+
+pub check-filled-one : OneAnswer 1 check-filled-kinds.ps check-filled-kinds.r check-filled-reads.Post
+check-filled-one κs a x y v w p q = (p ∙ sym q, refl)
+
+pub check-edition-one : OneAnswer 1 check-edition-kinds.ps check-edition-kinds.r check-edition-reads.Post
+check-edition-one κs a x y v w p q = (p ∙ sym q, refl)
 
 pub limit-one : OneAnswer 0 limit-kinds.ps limit-kinds.r limit-reads.Post
 limit-one κs a x y v w p q = (p ∙ sym q, refl)

@@ -15,6 +15,7 @@ use Rattle.files_words.proofs.WordLaws.{word-of-words, length-words-from}
 use Rattle.files_sections.specs.declared.checks.Check.{Check}
 use Rattle.files_sections.specs.declared.checks.Check.the-variants.{Sound, Fault}
 use Rattle.files_sections.specs.declared.checks.Rule.{Rule}
+use Rattle.files_sections.specs.declared.checks.Rule.the-variants.{Any}
 use Rattle.files_sections.specs.Checks.{told, _⟫_, Ruling, walk, faultOf, rulingOf, wordFault}
 use Rattle.files_sections.proofs.CheckLaws.{both, fault-is-not-sound}
 
@@ -110,3 +111,18 @@ walk-needs ruling place before zero ws e = omega arith
 walk-needs ruling place before (suc n) [] e = fault-is-not-sound e
 walk-needs ruling place before (suc n) (w ∷ ws) e =
     omega (arith, walk-needs ruling (place + 8) (before ++ (w ∷ [])) n ws (both (told (ruling before w) place) _ e .1))
+
+-- ---- Words of which nothing is asked: a walk finds all of them, or it ends behind those that there are.
+pub walk-any : (place : ℕ) (before : List ℕ) (left : ℕ) (ws : List ℕ) → left ≤ length ws → walk (rulingOf Any) place before left ws ≡ Sound
+unfolding walk
+walk-any place before zero ws h = refl
+walk-any place before (suc left) [] h = absurd (omega arith)
+walk-any place before (suc left) (w ∷ ws) h = walk-any (place + 8) (before ++ (w ∷ [])) left ws (omega arith)
+
+pub walk-any-short : (place : ℕ) (before : List ℕ) (left : ℕ) (ws : List ℕ) → length ws < left → walk (rulingOf Any) place before left ws ≡ Fault 21 (place + 8 * length ws)
+unfolding walk
+walk-any-short place before zero ws h = absurd (omega arith)
+walk-any-short place before (suc left) [] h = ap (λ (p : ℕ). Fault 21 p) (omega arith)
+walk-any-short place before (suc left) (w ∷ ws) h =
+    let further : place + 8 + 8 * length ws ≡ place + 8 * suc (length ws) = omega arith in
+    walk-any-short (place + 8) (before ++ (w ∷ [])) left ws (omega arith) ∙ ap (λ (p : ℕ). Fault 21 p) further

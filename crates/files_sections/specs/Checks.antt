@@ -56,6 +56,11 @@ countedCheck file place limit width ruling =
 abbrev pub endCheck : List ℕ → (end : ℕ) → Check
 endCheck file end = need (leb (length file) end) 25 end
 
+-- ---- "22 edition": a file's first word is this edition.
+unfoldable pub editionCheck : List ℕ → (edition : ℕ) → Check
+unfolding wordAt
+editionCheck file edition = need (leb 8 (length file)) 21 0 ⟫ need (eqb (wordAt file 0) edition) 22 0
+
 -- ---- The rules: "Float words may hold any bits"; "24 number not in its section", "Numbers start at 0". Word j of a section, the first being word 0, is the first
 -- of its record where records of `width` words begin there. It is the number of one of `below` records, or its refusal is 24.
 
@@ -73,6 +78,16 @@ faultOf (Numbers below width) j w = numberFault below width j w
 abbrev pub rulingOf : Rule → Ruling
 rulingOf rule before w = faultOf rule (length before) w
 
--- ---- What the code's inner step answers: the refusal of word j, which a file has at a place, or 0.
+-- ---- A count with its records, whose words may hold any bits, and then the file's end.
+unfoldable pub filledCheck : List ℕ → (place limit width : ℕ) → Check
+unfolding countedCheck wordAt
+filledCheck file place limit width =
+    countedCheck file place limit width (rulingOf Any)
+    ⟫ endCheck file (place + 8 + 8 * (wordAt file place * width))
+
+-- ---- What the code's inner steps answer: so many words of any bits from a place on, and then the file's end; the refusal of word j, which a file has at a place, or 0.
+abbrev pub restCheck : List ℕ → (place count : ℕ) → Check
+restCheck file place count = walk (rulingOf Any) place [] count (wordsFrom file place) ⟫ endCheck file (place + 8 * count)
+
 abbrev pub wordFault : Rule → List ℕ → (place j : ℕ) → ℕ
 wordFault rule file place j = pick (leb (place + 8) (length file)) (faultOf rule j (wordAt file place)) 21

@@ -1,9 +1,10 @@
 // What a check of a file finds, and the check of what stands after a count word.
 ghost use mathlib.Core.Path.{_≡_};
 ghost use mathlib.Core.List.{[]};
-ghost use Prim.Native.Nat.{_+_, _*_, _^_, _<_};
+ghost use Prim.Native.Nat.{_+_, _*_, _^_, _<_, _≤_};
+ghost use lib.ListN.{length};
 ghost use Rattle.files_words.specs.Bytes.{wordsFrom};
-ghost use Rattle.files_sections.specs.Checks.{need, _⟫_, walk, countCheck, countedCheck, numberFault, faultOf, rulingOf, wordFault};
+ghost use Rattle.files_sections.specs.Checks.{need, _⟫_, walk, countCheck, countedCheck, editionCheck, filledCheck, numberFault, faultOf, rulingOf, wordFault, restCheck};
 use files_words::is_whole;
 use files_words::word_at;
 
@@ -113,4 +114,42 @@ pub fn check_counted(file: &[u8], place: usize, limit: u16, width: u16, rule: Ru
     };
     let words = word_at(file, place) as usize * width as usize;
     walk_words(file, place + 8, words, rule)
+}
+
+// So many words of any bits from a place on, and nothing behind them. Words of which nothing is asked are not walked over: that all are there is a question of length.
+fn check_rest(file: &[u8], place: usize, words: usize) -> Check
+    requires { ⌜ (place ≤ length (now file)) × (words ≤ 2 ^ 32) ⌝ }
+    ensures { λ r. ⌜ r ≡ restCheck (now (file .entry)) place words ⌝ }
+{
+    let whole = (file.len() - place) / 8;
+    if whole < words {
+        return Check::Fault {
+            number: 21,
+            place: place + 8 * whole,
+        };
+    }
+    let end = place + 8 * words;
+    need(file.len() <= end, 25, end)
+}
+
+// A count within its limit, as many records of `width` words, whose words may hold any bits, and nothing behind them.
+pub fn check_filled(file: &[u8], place: usize, limit: u16, width: u16) -> Check
+    ensures { λ r. ⌜ r ≡ filledCheck (now (file .entry)) place limit width ⌝ }
+{
+    let count = check_count(file, place, limit);
+    let Check::Sound = count else {
+        return count;
+    };
+    let words = word_at(file, place) as usize * width as usize;
+    check_rest(file, place + 8, words)
+}
+
+// The edition, a file's first word.
+pub fn check_edition(file: &[u8], edition: u64) -> Check
+    ensures { λ r. ⌜ r ≡ editionCheck (now (file .entry)) edition ⌝ }
+{
+    first(
+        need(is_whole(file, 0), 21, 0),
+        need(word_at(file, 0) == edition, 22, 0),
+    )
 }

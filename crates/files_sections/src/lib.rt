@@ -1,10 +1,14 @@
-// Layer 5: the check of what stands after a count word, for every file that has counts; and the three sections of an element file, edition 1.
+// Layer 5: the check of what stands after a count word, for every file that has counts; the three sections of an element file, edition 1; and the layout of a
+// result file.
 pub mod checks;
+pub mod results;
 pub mod sections;
 
 pub use checks::Check;
 pub use checks::Rule;
 pub use checks::check_counted;
+pub use checks::check_edition;
+pub use checks::check_filled;
 pub use checks::fault;
 pub use checks::first;
 pub use checks::need;

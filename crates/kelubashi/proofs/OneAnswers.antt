@@ -21,6 +21,8 @@ use Rattle.kelubashi.proofs.kelubashi1_withdraw.Kinds as withdraw-kinds
 use Rattle.kelubashi.proofs.kelubashi1_withdraw.Reads as withdraw-reads
 use Rattle.kelubashi.proofs.kelubashi1_check.Kinds as check-kinds
 use Rattle.kelubashi.proofs.kelubashi1_check.Reads as check-reads
+use Rattle.kelubashi.proofs.kelubashi1_compare.Kinds as compare-kinds
+use Rattle.kelubashi.proofs.kelubashi1_compare.Reads as compare-reads
 
 pub root-one : OneAnswer 1 root-kinds.ps root-kinds.r root-reads.Post
 root-one κs a x y v w p q = (p .0 ∙ sym (q .0), λ i. (tt, ((p .1 ∙ sym (q .1)) i, tt)))
@@ -53,3 +55,6 @@ withdraw-one κs a x y v w p q =
 
 pub check-one : OneAnswer 3 check-kinds.ps check-kinds.r check-reads.Post
 check-one κs a x y v w p q = (p .0 ∙ sym (q .0), λ i. (tt, ((p .1 .1 ∙ sym (q .1 .1)) i, ((p .1 .0 ∙ sym (q .1 .0)) i, tt))))
+
+pub compare-one : OneAnswer 4 compare-kinds.ps compare-kinds.r compare-reads.Post
+compare-one κs a x y v w p q = (p .0 ∙ sym (q .0), λ i. (tt, (tt, ((p .1 .1 ∙ sym (q .1 .1)) i, ((p .1 .0 ∙ sym (q .1 .0)) i, tt)))))

@@ -10,7 +10,8 @@ ghost use Rattle.files_results.specs.Results.{outcomeOf, resultFile};
 ghost use lib.ListN.{length};
 ghost use Rattle.files_summary.specs.Changes.{entryWidth, summaryRefusal, summaryList, appendBeside, appendRunBeside, withdrawBeside, withdrawRunBeside, settledBy, putEntry};
 ghost use Rattle.files_check.specs.RowsFile.{judgedOf, verdictsAfter};
-ghost use Rattle.kelubashi.specs.Face.{returned, answerAfter, lentBehind, readWords, resultsWords, numberIn, writeNumber, writeAnswer, writeRoom, changeWords, judgedWords};
+ghost use Rattle.files_compare.specs.Compare.{runAfter};
+ghost use Rattle.kelubashi.specs.Face.{returned, answerAfter, lentBehind, readWords, resultsWords, numberIn, writeNumber, writeAnswer, writeRoom, changeWords, judgedWords, compareWords};
 
 mod answers;
 
@@ -210,4 +211,24 @@ pub extern "C" fn kelubashi1_check(file: &[u8], verdicts: &mut [u64], answer: &m
     let judged = files_check::judge(file, verdicts);
     bits::copy_words(&[judged.number, judged.place_or_rows as u64], answer);
     judged.number
+}
+
+// What is told of two result files, row by row to a lent run, and an answer run of seven words.
+#[no_mangle]
+pub extern "C" fn kelubashi1_compare(
+    left: &[u8],
+    right: &[u8],
+    rows: &mut [u64],
+    answer: &mut [u64],
+) -> u64
+    ensures number { λ r. ⌜ r ≡ returned 7 (now (answer .entry)) (numberIn (compareWords (now (left .entry)) (now (right .entry)) (now (rows .entry)))) ⌝ }
+    ensures answer { λ _. ⌜ now (answer .exit) ≡ answerAfter 7 (now (answer .entry)) (compareWords (now (left .entry)) (now (right .entry)) (now (rows .entry))) ⌝ }
+    ensures lent { λ _. ⌜ now (rows .exit) ≡ lentBehind 7 (now (answer .entry)) (now (rows .entry)) (runAfter (now (left .entry)) (now (right .entry)) (now (rows .entry))) ⌝ }
+{
+    if answer.len() != 7 {
+        return 60;
+    }
+    let words = files_told::words_of(files_compare::compare(left, right, rows));
+    bits::copy_words(&words, answer);
+    words[0]
 }

@@ -15,9 +15,9 @@ use Rattle.files_words.proofs.WordLaws.{word-whole, next-word}
 use Rattle.files_sections.specs.declared.sections.Section.{Section}
 use Rattle.files_sections.specs.declared.checks.Check.{Check}
 use Rattle.files_sections.specs.declared.checks.Check.the-variants.{Sound, Fault}
-use Rattle.files_sections.specs.Checks.{need, told, _⟫_, Ruling, walk, countCheck, countedCheck, rulingOf, endCheck}
+use Rattle.files_sections.specs.Checks.{need, told, _⟫_, Ruling, walk, countCheck, countedCheck, editionCheck, rulingOf, endCheck}
 use Rattle.files_sections.specs.Sections.{elementEdition, sections, widthOf, limitOf, ruleOf, centresPlace, after}
-use Rattle.files_reader.specs.Reader.{editionCheck, sectionsCheck, fileCheck, sectionsOf, readingBy, readingOf, longestFile}
+use Rattle.files_reader.specs.Reader.{sectionsCheck, fileCheck, sectionsOf, readingBy, readingOf, longestFile}
 use Rattle.files_reader.proofs.Accepted.{accepted-length}
 use Rattle.files_results.specs.Results.{resultBy, resultFile}
 
@@ -54,7 +54,7 @@ module _ (start rest : List ℕ) where
   same-need : (place : ℕ) → place + 8 ≤ length start → leb (place + 8) (length whole) ≡ leb (place + 8) (length start)
   same-need place h = le-leb (place + 8) (length whole) (omega (arith, longer)) ∙ sym (le-leb _ _ h)
 
-  same-edition : 8 ≤ length start → editionCheck whole ≡ editionCheck start
+  same-edition : 8 ≤ length start → editionCheck whole elementEdition ≡ editionCheck start elementEdition
   unfolding editionCheck
   same-edition h = ap₂ (λ (b : Bool) (w : ℕ). need b 21 0 ⟫ need (eqb w elementEdition) 22 0) (same-need 0 h) (same-word 0 h)
 

@@ -9,7 +9,8 @@ use Rattle.states_arcs.specs.Results.{figuresOf}
 use Rattle.states.specs.Call.{answerWords, propagateOf}
 use Rattle.files_words.specs.Bytes.{asBytes, put}
 use Rattle.files_reader.proofs.Accepted.{accepted-counts}
-use Rattle.files_results.specs.Results.{rowWords, rowOf}
+use Rattle.files_sections.specs.ResultLayout.{rowWords}
+use Rattle.files_results.specs.Results.{rowOf}
 use Rattle.files_results.proofs.put_row.Statement.{statement}
 use Rattle.files_results.proofs.put_row.Tie as tie
 

@@ -8,7 +8,8 @@ use Rattle.files_words.specs.Bytes.{asBytes}
 use Rattle.files_reader.specs.declared.Places.{Places}
 use Rattle.files_words.proofs.PutLaws.{put-nothing}
 use Rattle.files_results.proofs.Rows.{row-after, room-length}
-use Rattle.files_results.specs.Results.{rowsOf, rowPlace, withRow, withRows}
+use Rattle.files_sections.specs.ResultLayout.{rowPlace}
+use Rattle.files_results.specs.Results.{rowsOf, withRow, withRows}
 use Rattle.files_results.proofs.put_rows.Statement.{statement}
 use Rattle.files_results.proofs.put_rows.Tie as tie
 

@@ -8,7 +8,8 @@ use lib.ListN.{length}
 use Rattle.files_words.specs.Bytes.{asBytes}
 use Rattle.files_results.proofs.Rows.{result-length, all-rows, too-short, long-enough}
 use Rattle.files_reader.proofs.Accepted.{accepted-counts}
-use Rattle.files_results.specs.Results.{rowPlace, sectionsWords, withRows}
+use Rattle.files_sections.specs.ResultLayout.{rowPlace}
+use Rattle.files_results.specs.Results.{sectionsWords, withRows}
 use Rattle.files_results.proofs.write_accepted.Statement.{statement}
 use Rattle.files_results.proofs.write_accepted.Tie as tie
 

@@ -1,6 +1,5 @@
 -- The count, then the walk over as many words as it tells.
 use Prim.Native.Nat.{ℕ, _+_, _*_, _^_, _≤_}
-use native.Mathlib.Nat.{mul-le-mul}
 use native.Mathlib.Omega.{arith}
 use mathlib.Core.List.{[]}
 use mathlib.Core.Path.{sym, ap, _∙_}
@@ -9,7 +8,7 @@ use lib.ListN.{length}
 use Rattle.files_words.specs.Bytes.{wordsFrom}
 use Rattle.files_sections.specs.Checks.{walk, rulingOf, countedCheck}
 use Rattle.files_sections.proofs.CheckLaws.{stops, goes-on}
-use Rattle.files_sections.proofs.CountedLaws.{count-sound}
+use Rattle.files_sections.proofs.CountedLaws.{few-words}
 use Rattle.files_sections.proofs.checks.check_counted.Statement.{statement}
 use Rattle.files_sections.proofs.checks.check_counted.Tie as tie
 
@@ -36,10 +35,8 @@ counted : (c : tie.After-word-at) →
 counted c =
     let a = c .before .before .before .before .before .args in
     let fits = c .before .before .before .before .before .fits in
-    let sound = count-sound (a .file .now) (a .place) (a .limit) (sym (c .before .before .before .check-count .ensures) ∙ c .before .enum-told .given .1) in
-    let count : c .word-at .result ≤ 2 ^ 16 = omega (arith, c .word-at .ensures, sound .1, fits .limit) in
-    let width : a .width ≤ 2 ^ 16 = omega (arith, fits .width) in
-    (sound .0, mul-le-mul count width)
+    few-words (a .file .now) (a .place) (a .limit) (a .width) (omega (arith, fits .limit)) (omega (arith, fits .width))
+    (sym (c .before .before .before .check-count .ensures) ∙ c .before .enum-told .given .1) (c .word-at .ensures)
 
 mul-words : tie.Need-mul-words
 mul-words c = omega (arith, counted c)

@@ -4,10 +4,9 @@ use mathlib.Core.Path.{ap, ap₂, _∙_}
 use mathlib.Core.Bool.{Bool}
 use borrow.Author.Needs.{needs}
 use lib.Dec.{eqb}
-use Rattle.files_sections.specs.Checks.{need, _⟫_}
-use Rattle.files_reader.specs.Reader.{editionCheck}
-use Rattle.files_reader.proofs.check_edition.Statement.{statement}
-use Rattle.files_reader.proofs.check_edition.Tie as tie
+use Rattle.files_sections.specs.Checks.{need, _⟫_, editionCheck}
+use Rattle.files_sections.proofs.checks.check_edition.Statement.{statement}
+use Rattle.files_sections.proofs.checks.check_edition.Tie as tie
 
 is-whole-requires : tie.Need-is-whole-requires
 is-whole-requires c κs = search needs
@@ -27,7 +26,7 @@ first-requires c κs = search needs
 returns : tie.Need-returns
 unfolding editionCheck
 returns c =
-    let two = c .before .need2 .ensures ∙ ap (λ (w : ℕ). need (eqb w 1) 22 0) (c .before .before .word-at .ensures) in
+    let two = c .before .need2 .ensures ∙ ap (λ (w : ℕ). need (eqb w (c .before .before .before .before .before .before .args .edition)) 22 0) (c .before .before .word-at .ensures) in
     let one = c .before .before .before .need .ensures ∙ ap (λ (t : Bool). need t 21 0) (c .before .before .before .before .is-whole .ensures) in
     c .first .ensures ∙ ap₂ _⟫_ one two
 

@@ -1,0 +1,125 @@
+-- A file beside itself, and two files either way round.
+use Prim.Native.Nat.{ℕ, zero, suc, _+_}
+use mathlib.Core.Path.{_≡_, refl, sym, ap, ap₂, _∙_}
+use mathlib.Core.Bool.{Bool, true, false, _&&_}
+use mathlib.Core.Logic.{_⊎_, inl, inr}
+use mathlib.Core.List.{List}
+use native.Mathlib.Omega.{arith}
+use borrow.Author.Tests.{eq-eqb, ne-eqb, eqb-true, eqb-false}
+use lib.Dec.{eqb}
+use lib.Ieee.{binary64, ofBits}
+use Rattle.bits.specs.Choice.{pick}
+use Rattle.bits.specs.Arithmetic.{isFinite}
+use Rattle.files_sections.specs.ResultLayout.{rowRefusal, rowFigures, figuresOfRow}
+use Rattle.files_told.specs.declared.told.Rows.{Rows}
+use Rattle.files_told.specs.declared.told.Rows.the-variants as rows
+use Rattle.files_told.specs.declared.told.Figure.{Figure}
+use Rattle.files_told.specs.declared.told.Figure.the-variants as figure
+use Rattle.files_told.specs.declared.told.Largest.{Largest}
+use Rattle.files_told.specs.Distance.{distanceOf}
+use Rattle.files_told.specs.Told.{rowsOf, bothFinite, figureOf, figureIn, largestWith}
+use Rattle.files_compare.specs.Compare.{field, rowsAt, figureAt, largestInRow, largestOf}
+use Rattle.files_compare.specs.ComparePromise.{Unmoved, NothingMoved, exchanged, SidesExchanged}
+use Rattle.files_told.proofs.DistanceLaws.{symmetric}
+
+-- ---- A file beside itself.
+abbrev answer : (b c : Bool) → Rows
+answer b c = pick b (pick b rows.Answered rows.RightRefused) (pick b rows.LeftRefused (pick c rows.RefusedAlike rows.RefusedUnlike))
+
+same-rows : (w : ℕ) → (rowsOf w w ≡ rows.Answered) ⊎ (rowsOf w w ≡ rows.RefusedAlike)
+unfolding rowsOf
+same-rows w = by (eqb w 0) refl
+  where
+    by : (b : Bool) → eqb w 0 ≡ b → (answer (eqb w 0) (eqb w w) ≡ rows.Answered) ⊎ (answer (eqb w 0) (eqb w w) ≡ rows.RefusedAlike)
+    by true e = inl (ap (λ (b : Bool). answer b (eqb w w)) e)
+    by false e = inr (ap₂ answer e (eq-eqb w w refl))
+
+same-figure : (w : ℕ) → Unmoved (figureOf w w)
+unfolding figureOf
+same-figure w = by (bothFinite w w)
+  where
+    none : distanceOf w w ≡ 0
+    none = omega arith
+
+    by : (b : Bool) → Unmoved (pick b (figure.Distance (distanceOf w w)) (pick (eqb w w) figure.EqualBits figure.UnequalBits))
+    by true = inl (ap (λ (d : ℕ). figure.Distance d) none)
+    by false = inr (inl (ap (λ (b : Bool). pick b figure.EqualBits figure.UnequalBits) (eq-eqb w w refl)))
+
+in-same : (r : Rows) (w : ℕ) → Unmoved (figureIn r w w)
+unfolding figureIn
+in-same rows.Answered w = same-figure w
+in-same rows.LeftRefused w = inr (inr refl)
+in-same rows.RightRefused w = inr (inr refl)
+in-same rows.RefusedAlike w = inr (inr refl)
+in-same rows.RefusedUnlike w = inr (inr refl)
+
+pub nothing-moved : NothingMoved
+nothing-moved file k n = record {
+  same-rows = same-rows (field file k rowRefusal);
+  same-figure = in-same (rowsAt file file k) (field file k (rowFigures + n));
+}
+
+-- ---- Two files either way round.
+eqb-sym : (v w : ℕ) → eqb v w ≡ eqb w v
+eqb-sym v w = by (eqb w v) refl
+  where
+    by : (b : Bool) → eqb w v ≡ b → eqb v w ≡ eqb w v
+    by true e = eq-eqb v w (sym (eqb-true w v e)) ∙ sym e
+    by false e = ne-eqb v w (λ q. eqb-false w v e (sym q)) ∙ sym e
+
+rows-exchanged : (v w : ℕ) → rowsOf w v ≡ exchanged (rowsOf v w)
+unfolding rowsOf
+rows-exchanged v w =
+    ap (λ (c : Bool). pick (eqb w 0) (pick (eqb v 0) rows.Answered rows.RightRefused) (pick (eqb v 0) rows.LeftRefused (pick c rows.RefusedAlike rows.RefusedUnlike))) (eqb-sym w v)
+    ∙ by (eqb v 0) (eqb w 0) (eqb v w)
+  where
+    by : (a b c : Bool) →
+        pick b (pick a rows.Answered rows.RightRefused) (pick a rows.LeftRefused (pick c rows.RefusedAlike rows.RefusedUnlike))
+        ≡ exchanged (pick a (pick b rows.Answered rows.RightRefused) (pick b rows.LeftRefused (pick c rows.RefusedAlike rows.RefusedUnlike)))
+    by true true c = refl
+    by true false c = refl
+    by false true c = refl
+    by false false true = refl
+    by false false false = refl
+
+and-sym : (a b : Bool) → a && b ≡ b && a
+and-sym true true = refl
+and-sym true false = refl
+and-sym false true = refl
+and-sym false false = refl
+
+figure-exchanged : (v w : ℕ) → figureOf w v ≡ figureOf v w
+unfolding figureOf
+figure-exchanged v w =
+    λ i. pick (and-sym (isFinite (ofBits binary64 w)) (isFinite (ofBits binary64 v)) i) (figure.Distance (symmetric w v i)) (pick (eqb-sym w v i) figure.EqualBits figure.UnequalBits)
+
+in-exchanged : (r : Rows) (v w : ℕ) → figureIn (exchanged r) w v ≡ figureIn r v w
+unfolding figureIn
+in-exchanged rows.Answered v w = figure-exchanged v w
+in-exchanged rows.LeftRefused v w = refl
+in-exchanged rows.RightRefused v w = refl
+in-exchanged rows.RefusedAlike v w = refl
+in-exchanged rows.RefusedUnlike v w = refl
+
+module _ (left right : List ℕ) where
+  figures : (k n : ℕ) → figureAt right left k n ≡ figureAt left right k n
+  figures k n =
+      ap (λ (r : Rows). figureIn r (field right k (rowFigures + n)) (field left k (rowFigures + n))) (rows-exchanged (field left k rowRefusal) (field right k rowRefusal))
+      ∙ in-exchanged (rowsAt left right k) (field left k (rowFigures + n)) (field right k (rowFigures + n))
+
+  in-row : (k n : ℕ) (l : Largest) → largestInRow right left l k n ≡ largestInRow left right l k n
+  unfolding largestInRow
+  in-row k zero l = refl
+  in-row k (suc n) l = λ i. largestWith (in-row k n l i) k (rowFigures + n) (figures k n i)
+
+  largest : (n : ℕ) → largestOf right left n ≡ largestOf left right n
+  unfolding largestOf
+  largest zero = refl
+  largest (suc n) = ap (λ (l : Largest). largestInRow right left l n figuresOfRow) (largest n) ∙ in-row n figuresOfRow (largestOf left right n)
+
+pub sides-exchanged : SidesExchanged
+sides-exchanged left right k = record {
+  its-rows = rows-exchanged (field left k rowRefusal) (field right k rowRefusal);
+  its-figures = figures left right k;
+  its-largest = largest left right k;
+}

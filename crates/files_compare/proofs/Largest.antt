@@ -1,0 +1,198 @@
+-- The first largest distance: what holds of it after so many figures, and with one more.
+use Prim.Native.Nat.{ℕ, zero, suc, _+_, _≤_, _<_}
+use mathlib.Core.Path.{_≡_, refl, sym, ap, subst, _∙_}
+use mathlib.Core.Bool.{Bool, true, false}
+use mathlib.Core.Logic.{_⊎_, inl, inr}
+use mathlib.Core.List.{List}
+use native.Mathlib.Omega.{arith}
+use borrow.Author.Tests.{ltb-true, ltb-false}
+use lib.Dec.{ltb}
+use Rattle.bits.specs.Choice.{pick}
+use Rattle.files_sections.specs.ResultLayout.{rowFigures, figuresOfRow}
+use Rattle.files_told.specs.declared.told.Figure.{Figure}
+use Rattle.files_told.specs.declared.told.Figure.the-variants as figure
+use Rattle.files_told.specs.declared.told.Largest.{Largest}
+use Rattle.files_told.specs.declared.told.Largest.the-variants as largest
+use Rattle.files_told.specs.Told.{unlessSmaller, largestWith}
+use Rattle.files_compare.specs.Compare.{figureAt, largestInRow, largestOf}
+use Rattle.files_compare.specs.ComparePromise.{Earlier, IsFirst, FirstLargest, LargestIsFirst}
+
+-- ---- Figures in their order.
+in-front : (k j row n : ℕ) → Earlier k j row n → Earlier k j row (suc n)
+in-front k j row n (inl l) = inl l
+in-front k j row n (inr p) = inr (p .0, omega (arith, p .1))
+
+itself : (row n : ℕ) → Earlier row n row (suc n)
+itself row n = inr (refl, omega arith)
+
+last-or-before : (k j row n : ℕ) → Earlier k j row (suc n) → Earlier k j row n ⊎ ((k ≡ row) × (j ≡ n))
+last-or-before k j row n (inl l) = inl (inl l)
+last-or-before k j row n (inr p) = by (ltb j n) refl
+  where
+    by : (b : Bool) → ltb j n ≡ b → Earlier k j row n ⊎ ((k ≡ row) × (j ≡ n))
+    by true e = inl (inr (p .0, ltb-true j n e))
+    by false e = inr (p .0, omega (arith, p .1, ltb-false j n e))
+
+-- The end of a row is the beginning of the next.
+next-row : (k j row : ℕ) → Earlier k j row figuresOfRow → Earlier k j (suc row) 0
+next-row k j row (inl l) = inl (omega (arith, l))
+next-row k j row (inr p) = inl (omega (arith, p .0))
+
+row-before : (k j row : ℕ) → j < figuresOfRow → Earlier k j (suc row) 0 → Earlier k j row figuresOfRow
+row-before k j row h (inl l) = by (ltb k row) refl
+  where
+    by : (b : Bool) → ltb k row ≡ b → Earlier k j row figuresOfRow
+    by true e = inl (ltb-true k row e)
+    by false e = inr (omega (arith, l, ltb-false k row e), h)
+row-before k j row h (inr p) = absurd (omega (arith, p .1))
+
+module _ (left right : List ℕ) where
+  abbrev Has : (k j d : ℕ) → Type 0
+  Has k j d = figureAt left right k j ≡ figure.Distance d
+
+  -- A figure has one distance.
+  same-distance : (k j d e : ℕ) → Has k j d → Has k j e → d ≡ e
+  same-distance k j d e p q = let same : figure.Distance d ≡ figure.Distance e = sym p ∙ q in cc
+
+  at-last : (k j row n d e : ℕ) → (k ≡ row) × (j ≡ n) → Has row n d → Has k j e → d ≡ e
+  at-last k j row n d e p q r = same-distance row n d e q (sym (λ i. figureAt left right (p .0 i) (p .1 i)) ∙ r)
+
+  module _ (row n : ℕ) (here : n < figuresOfRow) where
+    -- A figure without a distance changes nothing.
+    stays : (l : Largest) → ((d : ℕ) → Has row n d → ⊥) → FirstLargest left right row n l → FirstLargest left right row (suc n) l
+    stays largest.Nowhere none f = λ k j e h before q. by k j e h q (last-or-before k j row n before)
+      where
+        by : (k j e : ℕ) → j < figuresOfRow → Has k j e → Earlier k j row n ⊎ ((k ≡ row) × (j ≡ n)) → ⊥
+        by k j e h q (inl b) = f k j e h b q
+        by k j e h q (inr p) = none e (sym (λ i. figureAt left right (p .0 i) (p .1 i)) ∙ q)
+    stays (largest.At r word d) none f = (
+      f .0,
+      (
+        f .1 .0,
+        record {
+          there = in-front r (f .0) row n (f .1 .1 .there);
+          a-figure = f .1 .1 .a-figure;
+          is-its = f .1 .1 .is-its;
+          none-larger = λ k j e h before q. by k j e h q (last-or-before k j row n before);
+          all-smaller = f .1 .1 .all-smaller;
+        },
+      ),
+    )
+      where
+        by : (k j e : ℕ) → j < figuresOfRow → Has k j e → Earlier k j row n ⊎ ((k ≡ row) × (j ≡ n)) → e ≤ d
+        by k j e h q (inl b) = f .1 .1 .none-larger k j e h b q
+        by k j e h q (inr p) = absurd (none e (sym (λ i. figureAt left right (p .0 i) (p .1 i)) ∙ q))
+
+    -- A distance: the first of all, or larger than those before it, or not.
+    module _ (d : ℕ) (its : Has row n d) where
+      as-first : FirstLargest left right row n largest.Nowhere → FirstLargest left right row (suc n) (largest.At row (rowFigures + n) d)
+      as-first f = (
+        n,
+        (
+          refl,
+          record {
+            there = itself row n;
+            a-figure = here;
+            is-its = its;
+            none-larger = λ k j e h before q. by k j e h q (last-or-before k j row n before);
+            all-smaller = λ k j e h before q. absurd (f k j e h before q);
+          },
+        ),
+      )
+        where
+          by : (k j e : ℕ) → j < figuresOfRow → Has k j e → Earlier k j row n ⊎ ((k ≡ row) × (j ≡ n)) → e ≤ d
+          by k j e h q (inl b) = absurd (f k j e h b q)
+          by k j e h q (inr p) = omega (arith, at-last k j row n d e p its q)
+
+      module _ (r word most : ℕ) (f : FirstLargest left right row n (largest.At r word most)) where
+        as-larger : most < d → FirstLargest left right row (suc n) (largest.At row (rowFigures + n) d)
+        as-larger l = (
+          n,
+          (
+            refl,
+            record {
+              there = itself row n;
+              a-figure = here;
+              is-its = its;
+              none-larger = λ k j e h before q. by k j e h q (last-or-before k j row n before);
+              all-smaller = λ k j e h before q. omega (arith, l, f .1 .1 .none-larger k j e h before q);
+            },
+          ),
+        )
+          where
+            by : (k j e : ℕ) → j < figuresOfRow → Has k j e → Earlier k j row n ⊎ ((k ≡ row) × (j ≡ n)) → e ≤ d
+            by k j e h q (inl b) = omega (arith, l, f .1 .1 .none-larger k j e h b q)
+            by k j e h q (inr p) = omega (arith, at-last k j row n d e p its q)
+
+        as-before : d ≤ most → FirstLargest left right row (suc n) (largest.At r word most)
+        as-before l = (
+          f .0,
+          (
+            f .1 .0,
+            record {
+              there = in-front r (f .0) row n (f .1 .1 .there);
+              a-figure = f .1 .1 .a-figure;
+              is-its = f .1 .1 .is-its;
+              none-larger = λ k j e h before q. by k j e h q (last-or-before k j row n before);
+              all-smaller = f .1 .1 .all-smaller;
+            },
+          ),
+        )
+          where
+            by : (k j e : ℕ) → j < figuresOfRow → Has k j e → Earlier k j row n ⊎ ((k ≡ row) × (j ≡ n)) → e ≤ most
+            by k j e h q (inl b) = f .1 .1 .none-larger k j e h b q
+            by k j e h q (inr p) = omega (arith, l, at-last k j row n d e p its q)
+
+        by-size : (b : Bool) → ltb most d ≡ b → FirstLargest left right row (suc n) (pick b (largest.At row (rowFigures + n) d) (largest.At r word most))
+        by-size true e = as-larger (ltb-true most d e)
+        by-size false e = as-before (ltb-false most d e)
+
+      with-distance : (l : Largest) → FirstLargest left right row n l → FirstLargest left right row (suc n) (unlessSmaller l row (rowFigures + n) d)
+      with-distance largest.Nowhere f = as-first f
+      with-distance (largest.At r word most) f = by-size r word most f (ltb most d) refl
+
+    no-distance : {f : Figure} → figureAt left right row n ≡ f → ((d : ℕ) → f ≡ figure.Distance d → ⊥) → (d : ℕ) → Has row n d → ⊥
+    no-distance e none d q = none d (sym e ∙ q)
+
+    one-more : (l : Largest) → FirstLargest left right row n l → FirstLargest left right row (suc n) (largestWith l row (rowFigures + n) (figureAt left right row n))
+    unfolding largestWith
+    one-more l f = by (figureAt left right row n) refl
+      where
+        by : (g : Figure) → figureAt left right row n ≡ g → FirstLargest left right row (suc n) (largestWith l row (rowFigures + n) g)
+        by (figure.Distance d) e = with-distance d e l f
+        by figure.EqualBits e = stays l (no-distance e (λ d q. let z : _≡_ {A = ℕ} 0 1 = cc in omega arith)) f
+        by figure.UnequalBits e = stays l (no-distance e (λ d q. let z : _≡_ {A = ℕ} 0 1 = cc in omega arith)) f
+        by figure.Untold e = stays l (no-distance e (λ d q. let z : _≡_ {A = ℕ} 0 1 = cc in omega arith)) f
+
+  -- ---- The figures of a row, then the rows.
+  in-row : (row n : ℕ) → n ≤ figuresOfRow → (l : Largest) → FirstLargest left right row 0 l → FirstLargest left right row n (largestInRow left right l row n)
+  unfolding largestInRow
+  in-row row zero h l f = f
+  in-row row (suc n) h l f = one-more row n (omega arith) (largestInRow left right l row n) (in-row row n (omega arith) l f)
+
+  at-next-row : (row : ℕ) (l : Largest) → FirstLargest left right row figuresOfRow l → FirstLargest left right (suc row) 0 l
+  at-next-row row largest.Nowhere f = λ k j e h before q. f k j e h (row-before k j row h before) q
+  at-next-row row (largest.At r word d) f = (
+    f .0,
+    (
+      f .1 .0,
+      record {
+        there = next-row r (f .0) row (f .1 .1 .there);
+        a-figure = f .1 .1 .a-figure;
+        is-its = f .1 .1 .is-its;
+        none-larger = λ k j e h before q. f .1 .1 .none-larger k j e h (row-before k j row h before) q;
+        all-smaller = f .1 .1 .all-smaller;
+      },
+    ),
+  )
+
+pub largest-is-first : LargestIsFirst
+unfolding largestOf
+largest-is-first left right zero = λ k j e h before q. none-yet k j before
+  where
+    none-yet : (k j : ℕ) → Earlier k j 0 0 → ⊥
+    none-yet k j (inl l) = omega (arith, l)
+    none-yet k j (inr p) = omega (arith, p .1)
+largest-is-first left right (suc row) =
+    at-next-row left right row (largestInRow left right (largestOf left right row) row figuresOfRow)
+    (in-row left right row figuresOfRow (omega arith) (largestOf left right row) (largest-is-first left right row))

@@ -1,0 +1,204 @@
+-- A file of rows has them, each in its place; two such files are compared row by row.
+use Prim.Native.Nat.{ℕ, zero, suc, _+_, _-_, _*_, _/_, _^_, _<_, _≤_}
+use mathlib.Core.Path.{_≡_, refl, sym, ap, ap₂, _∙_}
+use mathlib.Core.List.{List, [], _∷_, _++_, append-assoc, append-nil}
+use native.Mathlib.Nat.{add-zero}
+use native.Mathlib.Omega.{arith}
+use lib.ListN.{length, length-append, drop, getD}
+use lib.Seq.{drop-at, getD-at}
+use Rattle.files_words.specs.Bytes.{words, wordsFrom, wordAt, asBytes, Below}
+use Rattle.files_words.proofs.WordLaws.{length-as-bytes, words-as-bytes, words-later, word-of-words, below-append}
+use Rattle.files_sections.specs.declared.checks.Check.the-variants.{Sound, Fault}
+use Rattle.files_sections.specs.Checks.{_⟫_, editionCheck, filledCheck}
+use Rattle.files_sections.specs.ResultLayout.{resultEdition, rowWords, countPlace, rowPlace, rowRefusal, rowFigures, figuresOfRow}
+use Rattle.files_sections.proofs.CheckLaws.{sound-both}
+use Rattle.files_sections.proofs.CountedLaws.{sound-filled, left-behind, sound-edition}
+use Rattle.files_told.specs.declared.told.Rows.{Rows}
+use Rattle.files_told.specs.declared.told.Comparison.the-variants as comparison
+use Rattle.files_told.specs.Told.{rowsOf, rowsWord, figureIn, figureWords}
+use Rattle.files_compare.specs.Compare.{mostRows, resultsCheck, rowsIn, field, rowsAt, figureAt, figuresTold, rowTold, rowsTold, largestOf, toldWords}
+use Rattle.files_compare.specs.ComparePromise.{RefusedFileIs25, Row, wordsIn, IsRow, AreRows, allWords, fileOf, figuresBetween, between, allBetween, ComparesRows}
+use Rattle.files_compare.proofs.Orders.{refuses-in-order, keeps-or-tells}
+
+-- ---- A file of words: the edition, the count, and the words of rows.
+module _ (count : ℕ) (rest : List ℕ) (small : count < 2 ^ 64) (below : Below (2 ^ 64) rest) where
+  abbrev file : List ℕ
+  file = asBytes (resultEdition ∷ count ∷ rest)
+
+  pub words-length : length file ≡ 16 + 8 * length rest
+  words-length = length-as-bytes (resultEdition ∷ count ∷ rest) ∙ omega arith
+
+  all-here : wordsFrom file 0 ≡ resultEdition ∷ count ∷ rest
+  unfolding wordsFrom
+  all-here =
+      let many : (length file - 0) / 8 ≡ length (resultEdition ∷ count ∷ rest) = omega (arith, words-length) in
+      ap₂ words many (sym (append-nil file)) ∙ words-as-bytes (resultEdition ∷ count ∷ rest) [] (omega arith, (small, below))
+
+  edition-here : wordAt file 0 ≡ resultEdition
+  edition-here = sym (word-of-words file 0 0) ∙ ap (λ (ws : List ℕ). getD ws 0 0) all-here
+
+  pub count-here : rowsIn file ≡ count
+  count-here = sym (word-of-words file 0 1) ∙ ap (λ (ws : List ℕ). getD ws 1 0) all-here
+
+  pub rest-here : wordsFrom file (rowPlace 0) ≡ rest
+  rest-here = words-later file 0 2 ∙ ap (drop 2) all-here
+
+  edition-sound : editionCheck file resultEdition ≡ Sound
+  edition-sound = sound-edition file resultEdition (omega (arith, words-length)) edition-here
+
+  -- As many words as the count tells, or more.
+  pub exactly : count ≤ mostRows → length rest ≡ count * rowWords → resultsCheck file ≡ Sound
+  unfolding resultsCheck
+  exactly few size =
+      sound-both (editionCheck file resultEdition) (filledCheck file countPlace mostRows rowWords) edition-sound
+      (sound-filled file countPlace mostRows rowWords (omega (arith, words-length)) (omega (arith, count-here, few)) (omega (arith, words-length, count-here, size)))
+
+  pub and-more : count ≤ mostRows → count * rowWords < length rest → resultsCheck file ≡ Fault 25 (16 + 8 * (count * rowWords))
+  unfolding resultsCheck
+  and-more few more =
+      let end : countPlace + 8 + 8 * (rowsIn file * rowWords) ≡ 16 + 8 * (count * rowWords) = omega (arith, count-here) in
+      ap₂ _⟫_ edition-sound
+      (left-behind file countPlace mostRows rowWords (omega (arith, words-length)) (omega (arith, count-here, few)) (omega (arith, words-length, count-here, more))
+      ∙ ap (λ (p : ℕ). Fault 25 p) end)
+
+pub refused-file-is-25 : RefusedFileIs25
+refused-file-is-25 number h = and-more 0 (number ∷ []) (omega arith) (h, tt) (omega arith) (omega arith)
+
+-- ---- The words of rows.
+row-words : (r : Row) → IsRow r → length (wordsIn r) ≡ rowWords
+row-words r is = omega (arith, is .nine)
+
+all-words : (rs : List Row) → AreRows rs → length (allWords rs) ≡ length rs * rowWords
+all-words [] h = refl
+all-words (r ∷ rs) h = length-append (wordsIn r) (allWords rs) ∙ omega (arith, row-words r (h .0), all-words rs (h .1))
+
+all-below : (rs : List Row) → AreRows rs → Below (2 ^ 64) (allWords rs)
+all-below [] h = tt
+all-below (r ∷ rs) h = below-append (2 ^ 64) (wordsIn r) (allWords rs) (h .0 .are-words) (all-below rs (h .1))
+
+-- ---- Row k of a file, where the words of a row stand.
+module _ (file : List ℕ) (k : ℕ) (r : Row) (rest : List ℕ) (here : wordsFrom file (rowPlace k) ≡ wordsIn r ++ rest) where
+  word-is : (n : ℕ) → field file k n ≡ getD (wordsIn r ++ rest) n 0
+  word-is n = sym (word-of-words file (rowPlace k) n) ∙ ap (λ (ws : List ℕ). getD ws n 0) here
+
+  refusal-is : field file k rowRefusal ≡ r .refusal
+  refusal-is = word-is rowRefusal
+
+  figure-is : (n : ℕ) → field file k (rowFigures + n) ≡ getD (r .figures ++ rest) n 0
+  figure-is n = let two : rowFigures + n ≡ suc (suc n) = omega arith in word-is (rowFigures + n) ∙ ap (λ (m : ℕ). getD (wordsIn r ++ rest) m 0) two
+
+  next-here : IsRow r → wordsFrom file (rowPlace (suc k)) ≡ rest
+  next-here is =
+      let next : rowPlace (suc k) ≡ rowPlace k + 8 * rowWords = omega arith in
+      ap (wordsFrom file) next ∙ words-later file (rowPlace k) rowWords ∙ ap (drop rowWords) here ∙ drop-at (wordsIn r) rest rowWords (row-words r is)
+
+-- ---- Figures, from the first on.
+module _ (are : Rows) where
+  -- What is told of figures, by their number, from number j on.
+  from : (vs ws : ℕ → ℕ) (j n : ℕ) → List ℕ
+  from vs ws j zero = []
+  from vs ws j (suc n) = figureWords (figureIn are (vs j) (ws j)) ++ from vs ws (suc j) n
+
+  snoc : (vs ws : ℕ → ℕ) (j n : ℕ) → from vs ws j (suc n) ≡ from vs ws j n ++ figureWords (figureIn are (vs (j + n)) (ws (j + n)))
+  unfolding from
+  snoc vs ws j zero = append-nil (figureWords (figureIn are (vs j) (ws j))) ∙ ap (λ (m : ℕ). figureWords (figureIn are (vs m) (ws m))) (sym (add-zero j))
+  snoc vs ws j (suc n) =
+      let at : suc j + n ≡ j + suc n = omega arith in
+      ap (λ (l : List ℕ). figureWords (figureIn are (vs j) (ws j)) ++ l) (snoc vs ws (suc j) n ∙ ap (λ (m : ℕ). from vs ws (suc j) n ++ figureWords (figureIn are (vs m) (ws m))) at)
+      ∙ sym (append-assoc (figureWords (figureIn are (vs j) (ws j))) (from vs ws (suc j) n) (figureWords (figureIn are (vs (j + suc n)) (ws (j + suc n)))))
+
+  by-lists : (vs ws : List ℕ) (restV restW : List ℕ) (f g : ℕ → ℕ) (j : ℕ) → length vs ≡ length ws →
+      ((m : ℕ) → f (j + m) ≡ getD (vs ++ restV) m 0) → ((m : ℕ) → g (j + m) ≡ getD (ws ++ restW) m 0) → from f g j (length vs) ≡ figuresBetween are vs ws
+  unfolding from
+  by-lists [] [] restV restW f g j e p q = refl
+  by-lists [] (w ∷ ws) restV restW f g j e p q = refl
+  by-lists (v ∷ vs) [] restV restW f g j e p q = absurd (omega arith)
+  by-lists (v ∷ vs) (w ∷ ws) restV restW f g j e p q =
+      let later : (m : ℕ) → suc j + m ≡ j + suc m = λ m. omega arith in
+      ap₂ _++_
+      (ap₂ (λ (a b : ℕ). figureWords (figureIn are a b)) (ap f (sym (add-zero j)) ∙ p 0) (ap g (sym (add-zero j)) ∙ q 0))
+      (by-lists vs ws restV restW f g (suc j) (omega arith) (λ m. ap f (later m) ∙ p (suc m)) (λ m. ap g (later m) ∙ q (suc m)))
+
+told-from : (left right : List ℕ) (k n : ℕ) →
+    figuresTold left right k n ≡ from (rowsAt left right k) (λ m. field left k (rowFigures + m)) (λ m. field right k (rowFigures + m)) 0 n
+unfolding figuresTold from
+told-from left right k zero = refl
+told-from left right k (suc n) =
+    let are = rowsAt left right k in
+    let so-far = from are (λ m. field left k (rowFigures + m)) (λ m. field right k (rowFigures + m)) 0 n in
+    let here : n ≡ 0 + n = omega arith in
+    ap (λ (l : List ℕ). l ++ figureWords (figureAt left right k n)) (told-from left right k n)
+    ∙ ap (λ (j : ℕ). so-far ++ figureWords (figureAt left right k j)) here
+    ∙ sym (snoc are (λ m. field left k (rowFigures + m)) (λ m. field right k (rowFigures + m)) 0 n)
+
+-- ---- Rows.
+at-zero : (file : List ℕ) (k : ℕ) (r : Row) (rest : List ℕ) → wordsFrom file (rowPlace k) ≡ wordsIn r ++ rest → (n : ℕ) → field file k (rowFigures + (0 + n)) ≡ getD (r .figures ++ rest) n 0
+at-zero file k r rest here n = let z : 0 + n ≡ n = omega arith in ap (λ (m : ℕ). field file k (rowFigures + m)) z ∙ figure-is file k r rest here n
+
+module _ (left right : List ℕ) (k : ℕ) (l r : Row) (restL restR : List ℕ)
+    (il : IsRow l) (ir : IsRow r)
+    (hl : wordsFrom left (rowPlace k) ≡ wordsIn l ++ restL) (hr : wordsFrom right (rowPlace k) ≡ wordsIn r ++ restR) where
+  row-between : rowTold left right k ≡ between l r
+  row-between =
+      let are : rowsAt left right k ≡ rowsOf (l .refusal) (r .refusal) = ap₂ rowsOf (refusal-is left k l restL hl) (refusal-is right k r restR hr) in
+      let figures =
+      ap (λ (n : ℕ). from (rowsAt left right k) (λ m. field left k (rowFigures + m)) (λ m. field right k (rowFigures + m)) 0 n) (sym (il .nine))
+      ∙ by-lists (rowsAt left right k) (l .figures) (r .figures) restL restR (λ m. field left k (rowFigures + m)) (λ m. field right k (rowFigures + m)) 0
+      (il .nine ∙ sym (ir .nine)) (at-zero left k l restL hl) (at-zero right k r restR hr)
+      in
+      ap (λ (ws : List ℕ). rowsWord (rowsAt left right k) ∷ ws) (told-from left right k figuresOfRow ∙ figures)
+      ∙ ap (λ (a : Rows). rowsWord a ∷ figuresBetween a (l .figures) (r .figures)) are
+
+-- What is told of rows, from row k on.
+rowsFrom : (left right : List ℕ) (k n : ℕ) → List ℕ
+rowsFrom left right k zero = []
+rowsFrom left right k (suc n) = rowTold left right k ++ rowsFrom left right (suc k) n
+
+rows-snoc : (left right : List ℕ) (k n : ℕ) → rowsFrom left right k (suc n) ≡ rowsFrom left right k n ++ rowTold left right (k + n)
+unfolding rowsFrom
+rows-snoc left right k zero = append-nil (rowTold left right k) ∙ ap (rowTold left right) (sym (add-zero k))
+rows-snoc left right k (suc n) =
+    let at : suc k + n ≡ k + suc n = omega arith in
+    ap (λ (l : List ℕ). rowTold left right k ++ l) (rows-snoc left right (suc k) n ∙ ap (λ (m : ℕ). rowsFrom left right (suc k) n ++ rowTold left right m) at)
+    ∙ sym (append-assoc (rowTold left right k) (rowsFrom left right (suc k) n) (rowTold left right (k + suc n)))
+
+rows-from : (left right : List ℕ) (n : ℕ) → rowsTold left right n ≡ rowsFrom left right 0 n
+unfolding rowsTold rowsFrom
+rows-from left right zero = refl
+rows-from left right (suc n) =
+    let here : n ≡ 0 + n = omega arith in
+    ap (λ (l : List ℕ). l ++ rowTold left right n) (rows-from left right n)
+    ∙ ap (λ (j : ℕ). rowsFrom left right 0 n ++ rowTold left right j) here
+    ∙ sym (rows-snoc left right 0 n)
+
+each : (left right : List ℕ) (k : ℕ) (ls rs : List Row) → AreRows ls → AreRows rs → length ls ≡ length rs →
+    wordsFrom left (rowPlace k) ≡ allWords ls → wordsFrom right (rowPlace k) ≡ allWords rs → rowsFrom left right k (length ls) ≡ allBetween ls rs
+unfolding rowsFrom
+each left right k [] [] al ar e hl hr = refl
+each left right k [] (r ∷ rs) al ar e hl hr = refl
+each left right k (l ∷ ls) [] al ar e hl hr = absurd (omega arith)
+each left right k (l ∷ ls) (r ∷ rs) al ar e hl hr =
+    ap₂ _++_ (row-between left right k l r (allWords ls) (allWords rs) (al .0) (ar .0) hl hr)
+    (each left right (suc k) ls rs (al .1) (ar .1) (omega arith) (next-here left k l (allWords ls) hl (al .0)) (next-here right k r (allWords rs) hr (ar .0)))
+
+pub compares-rows : ComparesRows
+compares-rows ls rs al ar same few run fits =
+    let left = fileOf ls in
+    let right = fileOf rs in
+    let n = length ls in
+    let bl = all-below ls al in
+    let br = all-below rs ar in
+    let sl : n < 2 ^ 64 = omega arith in
+    let sr : length rs < 2 ^ 64 = omega arith in
+    let cl : rowsIn left ≡ n = count-here n (allWords ls) sl bl in
+    let cr : rowsIn right ≡ length rs = count-here (length rs) (allWords rs) sr br in
+    let soundL = exactly n (allWords ls) sl bl few (all-words ls al) in
+    let soundR = exactly (length rs) (allWords rs) sr br (omega arith) (all-words rs ar) in
+    let e = refuses-in-order left right (length run) .else-compared soundL soundR (cl ∙ same ∙ sym cr) (omega (arith, cl)) in
+    let told : rowsTold left right n ≡ allBetween ls rs =
+    rows-from left right n ∙ each left right 0 ls rs al ar same (rest-here n (allWords ls) sl bl) (rest-here (length rs) (allWords rs) sr br)
+    in
+    record {
+      answer = e ∙ ap (λ (m : ℕ). comparison.Compared m (largestOf left right m)) cl;
+      in-run = keeps-or-tells left right run .told _ _ e ∙ ap (λ (m : ℕ). rowsTold left right m ++ drop (toldWords * m) run) cl ∙ ap (λ (l : List ℕ). l ++ drop (toldWords * n) run) told;
+    }

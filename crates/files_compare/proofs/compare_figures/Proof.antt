@@ -1,0 +1,159 @@
+-- The figures told so far are the first of the row, and the largest distance is that with theirs.
+use Prim.Native.Nat.{ℕ, suc, _+_, _-_, _*_, _≤_, _<_}
+use mathlib.Core.List.{List}
+use mathlib.Core.Path.{_≡_, refl, sym, ap, _∙_}
+use native.Mathlib.Omega.{arith}
+use borrow.Author.Needs.{needs}
+use lib.ListN.{length}
+use Rattle.files_words.specs.Bytes.{put}
+use Rattle.files_words.proofs.PutLaws.{put-nothing}
+use Rattle.files_sections.specs.ResultLayout.{rowFigures, figuresOfRow}
+use Rattle.files_told.specs.declared.told.Rows.{Rows}
+use Rattle.files_told.specs.declared.told.Figure.{Figure}
+use Rattle.files_told.specs.declared.told.Largest.{Largest}
+use Rattle.files_told.specs.Told.{figureIn, figureWords, largestWith}
+use Rattle.files_compare.specs.Compare.{field, rowsAt, figureAt, figuresTold, largestInRow, toldWords}
+use Rattle.files_compare.proofs.Steps.{next-figure}
+use Rattle.files_compare.proofs.compare_figures.Statement.{statement}
+use Rattle.files_compare.proofs.compare_figures.Tie as tie
+
+module _ (left right run : List ℕ) (k : ℕ) (known : Largest) where
+  abbrev at : ℕ
+  at = toldWords * k + 1
+
+  -- The run and the largest after n figures.
+  abbrev toldTo : (n : ℕ) → List ℕ
+  toldTo n = put run at (figuresTold left right k n)
+
+  abbrev largestTo : (n : ℕ) → Largest
+  largestTo n = largestInRow left right known k n
+
+  start : at ≤ length run → (run ≡ toldTo 0) × (known ≡ largestTo 0)
+  unfolding figuresTold largestInRow
+  start h = (sym (put-nothing run at h), refl)
+
+  next : (rest j : ℕ) → j ≡ figuresOfRow - rest → 0 < rest → rest ≤ figuresOfRow → toldWords * k + toldWords ≤ length run →
+      {rows : Rows} → rows ≡ rowsAt left right k →
+      {v w : ℕ} → v ≡ field left k (rowFigures + j) → w ≡ field right k (rowFigures + j) →
+      {f : Figure} → f ≡ figureIn rows v w →
+      {now : List ℕ} → now ≡ toldTo j → {after : List ℕ} → after ≡ put now (at + 2 * j) (figureWords f) →
+      {l : Largest} → l ≡ largestTo j → {m : Largest} → m ≡ largestWith l k (rowFigures + j) f →
+      (after ≡ toldTo (figuresOfRow - (rest - 1))) × (m ≡ largestTo (figuresOfRow - (rest - 1)))
+  unfolding largestInRow
+  next rest j ej h l fits er ev ew ef en ea el em =
+      let e : suc j ≡ figuresOfRow - (rest - 1) = omega arith in
+      let told : _ ≡ figureAt left right k j = ef ∙ (λ i. figureIn (er i) (ev i) (ew i)) in (
+        ea ∙ (λ i. put (en i) (at + 2 * j) (figureWords (told i))) ∙ next-figure left right run at k j (omega arith) ∙ ap toldTo e,
+        em ∙ (λ i. largestWith (el i) k (rowFigures + j) (told i)) ∙ ap largestTo e,
+      )
+
+abbrev Inv-loop : tie.InvT-loop
+Inv-loop left right k rows run₀ largest₀ rest₀ run largest rest =
+    (rest ≤ figuresOfRow)
+    × (length run ≡ length run₀)
+    × (run ≡ toldTo left right run₀ k largest₀ (figuresOfRow - rest))
+    × (largest ≡ largestTo left right run₀ k largest₀ (figuresOfRow - rest))
+
+abbrev μ-loop : tie.MeasureT-loop
+μ-loop left right k rows run₀ largest₀ rest₀ run largest rest = rest
+
+loop-holds : tie.Need-loop-holds Inv-loop μ-loop
+loop-holds c =
+    let p = c .before .before .before in
+    let a = p .args in
+    let s = start (a .left .now) (a .right .now) (a .run .now) (a .k) (a .known) (omega (arith, p .pre .1)) in
+    (omega arith, refl, s .0, s .1)
+
+sub-j : tie.Need-sub-j Inv-loop μ-loop
+sub-j c = search needs
+
+add-word : tie.Need-add-word Inv-loop μ-loop
+add-word c = search needs
+
+field-at-requires : tie.Need-field-at-requires Inv-loop μ-loop
+field-at-requires c κs = (c .before .before .before .before .before .pre .0, omega arith)
+
+field-at-requires-2 : tie.Need-field-at-requires-2 Inv-loop μ-loop
+field-at-requires-2 c κs = (c .before .before .before .before .before .before .pre .0, omega arith)
+
+figure-in-requires : tie.Need-figure-in-requires Inv-loop μ-loop
+figure-in-requires c κs = search needs
+
+mul-put-figure : tie.Need-mul-put-figure Inv-loop μ-loop
+mul-put-figure c = omega (arith, c .before .before .before .before .before .before .before .before .before .pre .0)
+
+add-put-figure : tie.Need-add-put-figure Inv-loop μ-loop
+add-put-figure c = omega (arith, c .before .before .before .before .before .before .before .before .before .pre .0)
+
+mul-put-figure-2 : tie.Need-mul-put-figure-2 Inv-loop μ-loop
+mul-put-figure-2 c = omega arith
+
+add-put-figure-2 : tie.Need-add-put-figure-2 Inv-loop μ-loop
+add-put-figure-2 c = omega (arith, c .before .before .before .before .before .before .before .before .before .pre .0)
+
+put-figure-requires : tie.Need-put-figure-requires Inv-loop μ-loop
+put-figure-requires c κs =
+    let p = c .before .before .before .before .before .before .before .before .before in
+    let l = c .before .before .before .before .before .loop in
+    omega (arith, p .pre .1, l .inv .1, c .before .before .before .before .loop-test .taken)
+
+largest-with-requires : tie.Need-largest-with-requires Inv-loop μ-loop
+largest-with-requires c κs = search needs
+
+sub-rest : tie.Need-sub-rest Inv-loop μ-loop
+sub-rest c = search needs
+
+loop-less : tie.Need-loop-less Inv-loop μ-loop
+loop-less c = search needs
+
+loop-again : tie.Need-loop-again Inv-loop μ-loop
+loop-again c =
+    let put = c .before .before .before .put-figure in
+    let figure = c .before .before .before .before .before .figure-in in
+    let right = c .before .before .before .before .before .before .field-at2 in
+    let left = c .before .before .before .before .before .before .before .field-at in
+    let more = c .before .before .before .before .before .before .before .before .loop-test .taken in
+    let l = c .before .before .before .before .before .before .before .before .before .loop in
+    let p = c .before .before .before .before .before .before .before .before .before .before .before .before .before in
+    let a = p .args in
+    let n =
+    next (a .left .now) (a .right .now) (a .run .now) (a .k) (a .known) (l .rest) _ refl more (l .inv .0) (p .pre .1) (p .pre .2)
+    (left .ensures) (right .ensures) (figure .ensures) (l .inv .2) (put .ensures) (l .inv .3) (c .largest-with .ensures)
+    in
+    (omega arith, put .kept .0 ∙ l .inv .1, n .0, n .1)
+
+same-length : tie.Need-same-length Inv-loop μ-loop
+same-length c = c .before .loop .inv .1
+
+returns : tie.Need-returns Inv-loop μ-loop
+returns c =
+    let a = c .before .before .before .before .before .args in
+    let l = c .before .loop in
+    let e : figuresOfRow - l .rest ≡ figuresOfRow = omega arith in (
+      l .inv .2 ∙ ap (toldTo (a .left .now) (a .right .now) (a .run .now) (a .k) (a .known)) e,
+      l .inv .3 ∙ ap (largestTo (a .left .now) (a .right .now) (a .run .now) (a .k) (a .known)) e,
+    )
+
+pub compare-figures-spec : {M : Type 1} → statement M
+compare-figures-spec =
+    tie.close
+    (tie.spec
+    Inv-loop
+    μ-loop
+    loop-holds
+    sub-j
+    add-word
+    field-at-requires
+    field-at-requires-2
+    figure-in-requires
+    mul-put-figure
+    add-put-figure
+    mul-put-figure-2
+    add-put-figure-2
+    put-figure-requires
+    largest-with-requires
+    sub-rest
+    loop-less
+    loop-again
+    same-length
+    returns)

@@ -1,0 +1,59 @@
+-- Each arm is the definition at what the rows are.
+use Rattle.files_told.specs.Told.{figureIn}
+use borrow.Author.Needs.{needs}
+use Rattle.files_told.proofs.told.figure_in.Statement.{statement}
+use Rattle.files_told.proofs.told.figure_in.Tie as tie
+
+enum-told : tie.Need-enum-told
+enum-told c = search needs
+
+figure-of-requires : tie.Need-figure-of-requires
+figure-of-requires c κs = search needs
+
+enum-told-2 : tie.Need-enum-told-2
+enum-told-2 c = search needs
+
+enum-told-3 : tie.Need-enum-told-3
+enum-told-3 c = search needs
+
+enum-told-4 : tie.Need-enum-told-4
+enum-told-4 c = search needs
+
+enum-told-5 : tie.Need-enum-told-5
+enum-told-5 c = search needs
+
+returns : tie.Need-returns
+unfolding figureIn
+returns c = rw (c .before .enum-told .given .1) (c .figure-of .ensures)
+
+returns-2 : tie.Need-returns-2
+unfolding figureIn
+returns-2 c = simp (c .enum-told2 .given .1)
+
+returns-3 : tie.Need-returns-3
+unfolding figureIn
+returns-3 c = simp (c .enum-told3 .given .1)
+
+returns-4 : tie.Need-returns-4
+unfolding figureIn
+returns-4 c = simp (c .enum-told4 .given .1)
+
+returns-5 : tie.Need-returns-5
+unfolding figureIn
+returns-5 c = simp (c .enum-told5 .given .1)
+
+pub figure-in-spec : {M : Type 1} → statement M
+figure-in-spec =
+    tie.close
+    (tie.spec
+    enum-told
+    figure-of-requires
+    enum-told-2
+    enum-told-3
+    enum-told-4
+    enum-told-5
+    returns
+    returns-2
+    returns-3
+    returns-4
+    returns-5)

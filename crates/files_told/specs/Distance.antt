@@ -1,0 +1,48 @@
+-- Document 02, T-07: "the distance in last places, taken on the number line of finite doubles where both zeros are one place". The line is that of `bits`: `lineOf` is the
+-- index of a word on it.
+use mathlib.Core.Path.{_≡_}
+use mathlib.Core.Bool.{true, false}
+use Prim.Native.Nat.{ℕ, _+_, _-_, _*_, _^_, _≤_, _<_}
+use lib.Ieee.{binary64, lt, eq, ofBits}
+use Rattle.bits.specs.Arithmetic.{isFinite}
+use Rattle.bits.specs.Words.{infinity}
+use Rattle.bits.specs.Line.{lineOf}
+
+-- How far two words are apart on the line. One of the two differences is 0, as a difference below zero is.
+abbrev pub distanceOf : (v w : ℕ) → ℕ
+distanceOf v w = (lineOf v - lineOf w) + (lineOf w - lineOf v)
+
+-- ---- What a distance is, said of the numbers.
+
+-- A word of a finite double.
+pub record Finite (w : ℕ) : Type 0 where
+  pub is-word : w < 2 ^ 64
+  pub is-finite : isFinite (ofBits binary64 w) ≡ true
+
+abbrev pub Less : (v w : ℕ) → Type 0
+Less v w = lt (ofBits binary64 v) (ofBits binary64 w) ≡ true
+
+abbrev pub Symmetric : Type 0
+Symmetric = (v w : ℕ) → distanceOf v w ≡ distanceOf w v
+
+-- 0 exactly for equal numbers; both zeros are equal.
+abbrev pub ZeroForEqual : Type 0
+ZeroForEqual = (v w : ℕ) → Finite v → Finite w → (distanceOf v w ≡ 0 → eq (ofBits binary64 v) (ofBits binary64 w) ≡ true) × (eq (ofBits binary64 v) (ofBits binary64 w) ≡ true → distanceOf v w ≡ 0)
+
+-- "the next double is 1 away": w is the next above v where no double is between them, and 1 is the distance of no others.
+pub record IsNext (v w : ℕ) : Type 0 where
+  pub above : Less v w
+  pub none-between : (u : ℕ) → Finite u → Less v u → Less u w → ⊥
+
+abbrev pub NextIsOne : Type 0
+NextIsOne = (v w : ℕ) → Finite v → Finite w → (IsNext v w → distanceOf v w ≡ 1) × (Less v w → distanceOf v w ≡ 1 → IsNext v w)
+
+-- It is the number of steps: where u is not below v nor above w, the steps from v to w are those to u and those on from there.
+abbrev pub AddsUp : Type 0
+AddsUp =
+    (v u w : ℕ) → Finite v → Finite u → Finite w →
+    (Less u v → ⊥) → (Less w u → ⊥) → distanceOf v w ≡ distanceOf v u + distanceOf u w
+
+-- "never more than fits a word": from the largest finite double below zero to the largest above.
+abbrev pub FitsWord : Type 0
+FitsWord = (v w : ℕ) → Finite v → Finite w → (distanceOf v w ≤ 2 * (infinity - 1)) × (distanceOf v w < 2 ^ 64)

@@ -1,0 +1,16 @@
+// Layer 5: what is told of two figures, of two rows and of two result files: distances in last places, and the words of each case (document 02, T-07).
+pub mod distance;
+pub mod told;
+
+pub use distance::distance_of;
+pub use told::Comparison;
+pub use told::Figure;
+pub use told::Largest;
+pub use told::Rows;
+pub use told::Side;
+pub use told::figure_in;
+pub use told::figure_words;
+pub use told::largest_with;
+pub use told::rows_of;
+pub use told::rows_word;
+pub use told::words_of;

@@ -1,0 +1,211 @@
+// What is told of two rows, of a figure, of the largest distance, and of two files; and the words of each case.
+ghost use mathlib.Core.Path.{_≡_};
+ghost use Rattle.files_told.specs.Told.{rowsOf, rowsWord, bothFinite, figureOf, figureIn, figureWords, unlessSmaller, largestWith, comparedWords, sideWord, comparisonWords};
+use crate::distance::distance_of;
+use bits::words::is_finite_word;
+use files_sections::results::ROW_WORDS;
+
+// What two rows are: answered on both sides, refused on one alone, or on both, with one number or with two.
+pub enum Rows {
+    Answered,
+    LeftRefused,
+    RightRefused,
+    RefusedAlike,
+    RefusedUnlike,
+}
+
+// What is told of a figure: how many last places it moved; where a side is not finite, whether the bits are the same; nothing where a row is refused.
+pub enum Figure {
+    Distance(u64),
+    EqualBits,
+    UnequalBits,
+    Untold,
+}
+
+// The first largest distance, and where it is, if any figure has a distance.
+pub enum Largest {
+    Nowhere,
+    At {
+        row: usize,
+        word: usize,
+        distance: u64,
+    },
+}
+
+// The file that is refused, if it is one of the two.
+pub enum Side {
+    Neither,
+    Left,
+    Right,
+}
+
+// What is answered to two files.
+pub enum Comparison {
+    Compared {
+        count: usize,
+        largest: Largest,
+    },
+    Refused {
+        number: u64,
+        side: Side,
+        place: usize,
+    },
+}
+
+// What two rows are, by the first word of each.
+pub fn rows_of(left: u64, right: u64) -> Rows
+    ensures { λ r. ⌜ r ≡ rowsOf left right ⌝ }
+{
+    if left == 0 {
+        if right == 0 {
+            return Rows::Answered;
+        }
+        return Rows::RightRefused;
+    }
+    if right == 0 {
+        return Rows::LeftRefused;
+    }
+    if left == right {
+        return Rows::RefusedAlike;
+    }
+    Rows::RefusedUnlike
+}
+
+// Its word.
+pub fn rows_word(rows: Rows) -> u64
+    ensures { λ r. ⌜ r ≡ rowsWord rows ⌝ }
+{
+    match rows {
+        Rows::Answered => 0,
+        Rows::LeftRefused => 1,
+        Rows::RightRefused => 2,
+        Rows::RefusedAlike => 3,
+        Rows::RefusedUnlike => 4,
+    }
+}
+
+// Whether a figure is finite on both sides.
+fn both_finite(left: u64, right: u64) -> bool
+    ensures { λ r. ⌜ r ≡ bothFinite left right ⌝ }
+{
+    if is_finite_word(left) {
+        return is_finite_word(right);
+    }
+    false
+}
+
+// What is told of a figure of rows that are answered, by its two words.
+fn figure_of(left: u64, right: u64) -> Figure
+    ensures { λ r. ⌜ r ≡ figureOf left right ⌝ }
+{
+    if both_finite(left, right) {
+        return Figure::Distance(distance_of(left, right));
+    }
+    if left == right {
+        return Figure::EqualBits;
+    }
+    Figure::UnequalBits
+}
+
+// What is told of a figure of any two rows.
+pub fn figure_in(rows: Rows, left: u64, right: u64) -> Figure
+    ensures { λ r. ⌜ r ≡ figureIn rows left right ⌝ }
+{
+    match rows {
+        Rows::Answered => figure_of(left, right),
+        Rows::LeftRefused => Figure::Untold,
+        Rows::RightRefused => Figure::Untold,
+        Rows::RefusedAlike => Figure::Untold,
+        Rows::RefusedUnlike => Figure::Untold,
+    }
+}
+
+// Its kind and its distance.
+pub fn figure_words(figure: Figure) -> [u64; 2]
+    ensures { λ r. ⌜ r ≡ figureWords figure ⌝ }
+{
+    match figure {
+        Figure::Distance(distance) => [0, distance],
+        Figure::EqualBits => [1, 0],
+        Figure::UnequalBits => [2, 0],
+        Figure::Untold => [3, 0],
+    }
+}
+
+// The first largest of a distance and those before it.
+fn unless_smaller(known: Largest, row: usize, word: usize, distance: u64) -> Largest
+    ensures { λ r. ⌜ r ≡ unlessSmaller known row word distance ⌝ }
+{
+    match known {
+        Largest::Nowhere => Largest::At {
+            row,
+            word,
+            distance,
+        },
+        Largest::At {
+            row: _,
+            word: _,
+            distance: most,
+        } => {
+            if most < distance {
+                return Largest::At {
+                    row,
+                    word,
+                    distance,
+                };
+            }
+            known
+        }
+    }
+}
+
+// The first largest distance with one figure more, behind the others.
+pub fn largest_with(known: Largest, row: usize, word: usize, figure: Figure) -> Largest
+    ensures { λ r. ⌜ r ≡ largestWith known row word figure ⌝ }
+{
+    match figure {
+        Figure::Distance(distance) => unless_smaller(known, row, word, distance),
+        Figure::EqualBits => known,
+        Figure::UnequalBits => known,
+        Figure::Untold => known,
+    }
+}
+
+// The three words of the first largest distance, by the count of rows, behind the other four of an answer.
+fn compared_words(count: usize, largest: Largest) -> [u64; 7]
+    ensures { λ r. ⌜ r ≡ comparedWords count largest ⌝ }
+{
+    match largest {
+        Largest::Nowhere => [0, 0, 0, count as u64, count as u64, ROW_WORDS as u64, 0],
+        Largest::At {
+            row,
+            word,
+            distance,
+        } => [0, 0, 0, count as u64, row as u64, word as u64, distance],
+    }
+}
+
+// The word of a side.
+fn side_word(side: Side) -> u64
+    ensures { λ r. ⌜ r ≡ sideWord side ⌝ }
+{
+    match side {
+        Side::Neither => 0,
+        Side::Left => 0,
+        Side::Right => 1,
+    }
+}
+
+// The seven words of an answer: refusal, side, place, the count of rows, then row, word and distance of the first largest distance.
+pub fn words_of(comparison: Comparison) -> [u64; 7]
+    ensures { λ r. ⌜ r ≡ comparisonWords comparison ⌝ }
+{
+    match comparison {
+        Comparison::Compared { count, largest } => compared_words(count, largest),
+        Comparison::Refused {
+            number,
+            side,
+            place,
+        } => [number, side_word(side), place as u64, 0, 0, 0, 0],
+    }
+}
