@@ -3,13 +3,10 @@
 **  as they lie: x86-64 has the lowest byte first, as the files have.
 */
 #include "plain.h"
-
-#include <string.h>
-
-#define SIGN 0x8000000000000000u
-#define INFINITE 0x7ff0000000000000u     /* the word of plus infinity: as a whole number above those of all finite doubles without a sign */
+#include "series.h"
 
 enum { EDITION = 1, MOST_ROWS = 1500, HEAD = 16, ROW = 11, FIGURE = 2, TOLD = 19 };
+enum { ANSWERED, LEFT_REFUSED, RIGHT_REFUSED, REFUSED_ALIKE, REFUSED_UNLIKE };
 enum { DISTANCE, EQUAL_BITS, UNEQUAL_BITS, UNTOLD };
 
 /* The first largest distance so far, by its row and word, and the least one that takes its place: one more, or 0 while there is none. */
@@ -25,13 +22,13 @@ static uint64_t word_at(const uint8_t *place)
     return word;
 }
 
-/* Doubling takes the sign off. */
+/* By the bits below the sign, which doubling takes off. */
 static int is_finite(uint64_t word)
 {
     return word << 1 < INFINITE << 1;
 }
 
-/* Either side of zero lie as many steps as the words say without their signs, of which just one is set then. */
+/* Where just one has a sign, the steps from zero to either are added: the words, with the sign taken off. */
 static uint64_t distance_of(uint64_t left, uint64_t right)
 {
     if ((left ^ right) & SIGN)
@@ -42,8 +39,8 @@ static uint64_t distance_of(uint64_t left, uint64_t right)
 static uint64_t kind_of_rows(uint64_t left, uint64_t right)
 {
     if (left == 0)
-        return right == 0 ? 0 : 2;
-    return right == 0 ? 1 : left == right ? 3 : 4;
+        return right == 0 ? ANSWERED : RIGHT_REFUSED;
+    return right == 0 ? LEFT_REFUSED : left == right ? REFUSED_ALIKE : REFUSED_UNLIKE;
 }
 
 /* The figures of two rows that are answered. */
@@ -90,7 +87,7 @@ static struct largest tell_rows(const uint8_t *left, const uint8_t *right, uint6
     right += HEAD;
     for (row = 0; row < rows; row++) {
         told[0] = kind_of_rows(word_at(left), word_at(right));
-        if (told[0] == 0)
+        if (told[0] == ANSWERED)
             tell_figures(left, right, row, told + 1, &largest);
         else
             tell_none(told + 1);
