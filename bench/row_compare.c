@@ -48,7 +48,10 @@ static void refuse(uint8_t *file, size_t row, uint64_t number)
     put(file, row, KELUBASHI_REFUSAL, number);
 }
 
-/* Of fifty rows ten have a figure that moved by up to seven places, and seven are unlike in other ways. */
+/*
+**  Of fifty rows ten have a figure that moved by up to seven places. One has a figure on the other side of zero, one an infinite figure, one the same infinite
+**  figure on both sides; four are refused: on the left, on the right, on both with one number, on both with two.
+*/
 static void make_unlike(size_t row)
 {
     const size_t kind = row % 50, word = KELUBASHI_X + row % 9;

@@ -269,7 +269,6 @@ results "$new" "$row" "$(with "$row" '0=0000000000000006')" "$(with "$row" '0=00
 sorts="rows 9: moved 1, not moved 1; $(refused 3 3 1); largest distance 1 last place: y of row 3, +2.22e-16 km"
 listed() {
     figures
-    [ "$1" = moved ] || set -- all
     figure 3 y 1 +2.22e-16 km 1 1.0000000000000002
     [ "$1" = moved ] || echo '   4  nothing moved'
     one_side

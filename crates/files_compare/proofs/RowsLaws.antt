@@ -7,7 +7,7 @@ use native.Mathlib.Omega.{arith}
 use lib.ListN.{length, length-append, drop, getD}
 use lib.Seq.{drop-at, getD-at}
 use Rattle.files_words.specs.Bytes.{words, wordsFrom, wordAt, asBytes, Below}
-use Rattle.files_words.proofs.WordLaws.{length-as-bytes, words-as-bytes, words-later, word-of-words, below-append}
+use Rattle.files_words.proofs.WordLaws.{length-as-bytes, as-bytes-append, words-as-bytes, word-whole, words-later, word-of-words, below-append}
 use Rattle.files_sections.specs.declared.checks.Check.the-variants.{Sound, Fault}
 use Rattle.files_sections.specs.Checks.{_⟫_, editionCheck, filledCheck}
 use Rattle.files_sections.specs.ResultLayout.{resultEdition, rowWords, countPlace, rowPlace, rowRefusal, rowFigures, figuresOfRow}
@@ -21,27 +21,25 @@ use Rattle.files_compare.specs.ComparePromise.{RefusedFileIs25, Row, wor
 use Rattle.files_compare.proofs.Orders.{refuses-in-order, keeps-or-tells}
 
 -- ---- A file of words: the edition, the count, and the words of rows.
-module _ (count : ℕ) (rest : List ℕ) (small : count < 2 ^ 64) (below : Below (2 ^ 64) rest) where
+module _ (count : ℕ) (rest : List ℕ) (small : count < 2 ^ 64) where
   abbrev file : List ℕ
   file = asBytes (resultEdition ∷ count ∷ rest)
 
   pub words-length : length file ≡ 16 + 8 * length rest
   words-length = length-as-bytes (resultEdition ∷ count ∷ rest) ∙ omega arith
 
-  all-here : wordsFrom file 0 ≡ resultEdition ∷ count ∷ rest
-  unfolding wordsFrom
-  all-here =
-      let many : (length file - 0) / 8 ≡ length (resultEdition ∷ count ∷ rest) = omega (arith, words-length) in
-      ap₂ words many (sym (append-nil file)) ∙ words-as-bytes (resultEdition ∷ count ∷ rest) [] (omega arith, (small, below))
+  first-two : words 2 file ≡ resultEdition ∷ count ∷ []
+  first-two =
+      ap (words 2) (as-bytes-append (resultEdition ∷ count ∷ []) rest)
+      ∙ words-as-bytes (resultEdition ∷ count ∷ []) (asBytes rest) (omega arith, (small, tt))
 
   edition-here : wordAt file 0 ≡ resultEdition
-  edition-here = sym (word-of-words file 0 0) ∙ ap (λ (ws : List ℕ). getD ws 0 0) all-here
+  unfolding words
+  edition-here = word-whole file 0 (omega (arith, words-length)) ∙ ap (λ (ws : List ℕ). getD ws 0 0) first-two
 
   pub count-here : rowsIn file ≡ count
-  count-here = sym (word-of-words file 0 1) ∙ ap (λ (ws : List ℕ). getD ws 1 0) all-here
-
-  pub rest-here : wordsFrom file (rowPlace 0) ≡ rest
-  rest-here = words-later file 0 2 ∙ ap (drop 2) all-here
+  unfolding words
+  count-here = word-whole file countPlace (omega (arith, words-length)) ∙ ap (λ (ws : List ℕ). getD ws 1 0) first-two
 
   edition-sound : editionCheck file resultEdition ≡ Sound
   edition-sound = sound-edition file resultEdition (omega (arith, words-length)) edition-here
@@ -61,8 +59,16 @@ module _ (count : ℕ) (rest : List ℕ) (small : count < 2 ^ 64) (below : Below
       (left-behind file countPlace mostRows rowWords (omega (arith, words-length)) (omega (arith, count-here, few)) (omega (arith, words-length, count-here, more))
       ∙ ap (λ (p : ℕ). Fault 25 p) end)
 
+  rest-here : Below (2 ^ 64) rest → wordsFrom file (rowPlace 0) ≡ rest
+  unfolding wordsFrom
+  rest-here below =
+      let all = resultEdition ∷ count ∷ rest in
+      let many : (length file - 0) / 8 ≡ length all = omega (arith, words-length) in
+      let here : wordsFrom file 0 ≡ all = ap₂ words many (sym (append-nil file)) ∙ words-as-bytes all [] (omega arith, (small, below)) in
+      words-later file 0 2 ∙ ap (drop 2) here
+
 pub refused-file-is-25 : RefusedFileIs25
-refused-file-is-25 number h = and-more 0 (number ∷ []) (omega arith) (h, tt) (omega arith) (omega arith)
+refused-file-is-25 number = and-more 0 (number ∷ []) (omega arith) (omega arith) (omega arith)
 
 -- ---- The words of rows.
 row-words : (r : Row) → IsRow r → length (wordsIn r) ≡ rowWords
@@ -186,17 +192,15 @@ compares-rows ls rs al ar same few run fits =
     let left = fileOf ls in
     let right = fileOf rs in
     let n = length ls in
-    let bl = all-below ls al in
-    let br = all-below rs ar in
     let sl : n < 2 ^ 64 = omega arith in
     let sr : length rs < 2 ^ 64 = omega arith in
-    let cl : rowsIn left ≡ n = count-here n (allWords ls) sl bl in
-    let cr : rowsIn right ≡ length rs = count-here (length rs) (allWords rs) sr br in
-    let soundL = exactly n (allWords ls) sl bl few (all-words ls al) in
-    let soundR = exactly (length rs) (allWords rs) sr br (omega arith) (all-words rs ar) in
+    let cl : rowsIn left ≡ n = count-here n (allWords ls) sl in
+    let cr : rowsIn right ≡ length rs = count-here (length rs) (allWords rs) sr in
+    let soundL = exactly n (allWords ls) sl few (all-words ls al) in
+    let soundR = exactly (length rs) (allWords rs) sr (omega arith) (all-words rs ar) in
     let e = refuses-in-order left right (length run) .else-compared soundL soundR (cl ∙ same ∙ sym cr) (omega (arith, cl)) in
     let told : rowsTold left right n ≡ allBetween ls rs =
-    rows-from left right n ∙ each left right 0 ls rs al ar same (rest-here n (allWords ls) sl bl) (rest-here (length rs) (allWords rs) sr br)
+    rows-from left right n ∙ each left right 0 ls rs al ar same (rest-here n (allWords ls) sl (all-below ls al)) (rest-here (length rs) (allWords rs) sr (all-below rs ar))
     in
     record {
       answer = e ∙ ap (λ (m : ℕ). comparison.Compared m (largestOf left right m)) cl;

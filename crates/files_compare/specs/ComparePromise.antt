@@ -30,7 +30,7 @@ SoundSo = (file : List ℕ) → resultsCheck file ≡ Sound → SoundFile file
 
 -- "the three words of a refused file are 25": at the third, whatever number it is.
 abbrev pub RefusedFileIs25 : Type 0
-RefusedFileIs25 = (number : ℕ) → number < 2 ^ 64 → resultsCheck (asBytes (1 ∷ 0 ∷ number ∷ [])) ≡ Fault 25 16
+RefusedFileIs25 = (number : ℕ) → resultsCheck (asBytes (1 ∷ 0 ∷ number ∷ [])) ≡ Fault 25 16
 
 -- ---- "Refusals: 21, 22, 23 and 25, left file first .., then 51 row counts differ"; then 26, with the words needed.
 pub record InOrder (left right : List ℕ) (room : ℕ) : Type 0 where

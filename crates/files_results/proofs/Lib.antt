@@ -2,4 +2,5 @@
 pub mod Beyond
 pub mod Tau
 pub mod Rows
+pub mod Own
 pub mod OneAnswers

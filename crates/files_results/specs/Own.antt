@@ -1,0 +1,17 @@
+-- T-07: what we write can be compared. The result file of an accepted element file is a sound one, with a row for each request; "the three words of a refused file are 25".
+use mathlib.Core.Path.{_≡_}
+use mathlib.Core.List.{List}
+use Prim.Native.Nat.{ℕ}
+use Rattle.files_sections.specs.declared.checks.Check.the-variants.{Sound, Fault}
+use Rattle.files_reader.specs.Reader.{readingOf}
+use Rattle.files_reader.specs.declared.Places.{Places}
+use Rattle.files_reader.specs.declared.Reading.the-variants as reading
+use Rattle.files_compare.specs.Compare.{resultsCheck, rowsIn}
+use Rattle.files_results.specs.Results.{Accepted, resultFile}
+
+pub record Comparable (file : List ℕ) : Type 0 where
+  pub accepted : (places : Places) → Accepted file places → (resultsCheck (resultFile file) ≡ Sound) × (rowsIn (resultFile file) ≡ places .requests .count)
+  pub refused : (number place : ℕ) → readingOf file ≡ reading.Refused number place → resultsCheck (resultFile file) ≡ Fault 25 16
+
+abbrev pub OwnComparable : Type 0
+OwnComparable = (file : List ℕ) → Comparable file
