@@ -18,7 +18,7 @@ use Rattle.files_told.specs.declared.told.Figure.the-variants as figure
 use Rattle.files_told.specs.declared.told.Largest.{Largest}
 use Rattle.files_told.specs.Distance.{distanceOf}
 use Rattle.files_told.specs.Told.{rowsOf, bothFinite, figureOf, figureIn, largestWith}
-use Rattle.files_compare.specs.Compare.{field, rowsAt, figureAt, largestInRow, largestOf}
+use Rattle.files_compare.specs.Compare.{wordIn, rowAt, rowsAt, figureAt, largestInRow, largestOf}
 use Rattle.files_compare.specs.ComparePromise.{Unmoved, NothingMoved, exchanged, SidesExchanged}
 use Rattle.files_told.proofs.DistanceLaws.{symmetric}
 
@@ -55,8 +55,8 @@ in-same rows.RefusedUnlike w = inr (inr refl)
 
 pub nothing-moved : NothingMoved
 nothing-moved file k n = record {
-  same-rows = same-rows (field file k rowRefusal);
-  same-figure = in-same (rowsAt file file k) (field file k (rowFigures + n));
+  same-rows = same-rows (wordIn (rowAt file k) rowRefusal);
+  same-figure = in-same (rowsAt file file k) (wordIn (rowAt file k) (rowFigures + n));
 }
 
 -- ---- Two files either way round.
@@ -104,10 +104,10 @@ in-exchanged rows.RefusedUnlike v w = refl
 module _ (left right : List ℕ) where
   figures : (k n : ℕ) → figureAt right left k n ≡ figureAt left right k n
   figures k n =
-      ap (λ (r : Rows). figureIn r (field right k (rowFigures + n)) (field left k (rowFigures + n))) (rows-exchanged (field left k rowRefusal) (field right k rowRefusal))
-      ∙ in-exchanged (rowsAt left right k) (field left k (rowFigures + n)) (field right k (rowFigures + n))
+      ap (λ (r : Rows). figureIn r (wordIn (rowAt right k) (rowFigures + n)) (wordIn (rowAt left k) (rowFigures + n))) (rows-exchanged (wordIn (rowAt left k) rowRefusal) (wordIn (rowAt right k) rowRefusal))
+      ∙ in-exchanged (rowsAt left right k) (wordIn (rowAt left k) (rowFigures + n)) (wordIn (rowAt right k) (rowFigures + n))
 
-  in-row : (k n : ℕ) (l : Largest) → largestInRow right left l k n ≡ largestInRow left right l k n
+  in-row : (k n : ℕ) (l : Largest) → largestInRow (rowAt right k) (rowAt left k) l k n ≡ largestInRow (rowAt left k) (rowAt right k) l k n
   unfolding largestInRow
   in-row k zero l = refl
   in-row k (suc n) l = λ i. largestWith (in-row k n l i) k (rowFigures + n) (figures k n i)
@@ -115,11 +115,11 @@ module _ (left right : List ℕ) where
   largest : (n : ℕ) → largestOf right left n ≡ largestOf left right n
   unfolding largestOf
   largest zero = refl
-  largest (suc n) = ap (λ (l : Largest). largestInRow right left l n figuresOfRow) (largest n) ∙ in-row n figuresOfRow (largestOf left right n)
+  largest (suc n) = ap (λ (l : Largest). largestInRow (rowAt right n) (rowAt left n) l n figuresOfRow) (largest n) ∙ in-row n figuresOfRow (largestOf left right n)
 
 pub sides-exchanged : SidesExchanged
 sides-exchanged left right k = record {
-  its-rows = rows-exchanged (field left k rowRefusal) (field right k rowRefusal);
+  its-rows = rows-exchanged (wordIn (rowAt left k) rowRefusal) (wordIn (rowAt right k) rowRefusal);
   its-figures = figures left right k;
   its-largest = largest left right k;
 }

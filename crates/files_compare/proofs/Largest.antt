@@ -14,7 +14,7 @@ use Rattle.files_told.specs.declared.told.Figure.the-variants as figure
 use Rattle.files_told.specs.declared.told.Largest.{Largest}
 use Rattle.files_told.specs.declared.told.Largest.the-variants as largest
 use Rattle.files_told.specs.Told.{unlessSmaller, largestWith}
-use Rattle.files_compare.specs.Compare.{figureAt, largestInRow, largestOf}
+use Rattle.files_compare.specs.Compare.{figureAt, rowAt, largestInRow, largestOf}
 use Rattle.files_compare.specs.ComparePromise.{Earlier, IsFirst, FirstLargest, LargestIsFirst}
 
 -- ---- Figures in their order.
@@ -165,10 +165,10 @@ module _ (left right : List ℕ) where
         by figure.Untold e = stays l (no-distance e (λ d q. let z : _≡_ {A = ℕ} 0 1 = cc in omega arith)) f
 
   -- ---- The figures of a row, then the rows.
-  in-row : (row n : ℕ) → n ≤ figuresOfRow → (l : Largest) → FirstLargest left right row 0 l → FirstLargest left right row n (largestInRow left right l row n)
+  in-row : (row n : ℕ) → n ≤ figuresOfRow → (l : Largest) → FirstLargest left right row 0 l → FirstLargest left right row n (largestInRow (rowAt left row) (rowAt right row) l row n)
   unfolding largestInRow
   in-row row zero h l f = f
-  in-row row (suc n) h l f = one-more row n (omega arith) (largestInRow left right l row n) (in-row row n (omega arith) l f)
+  in-row row (suc n) h l f = one-more row n (omega arith) (largestInRow (rowAt left row) (rowAt right row) l row n) (in-row row n (omega arith) l f)
 
   at-next-row : (row : ℕ) (l : Largest) → FirstLargest left right row figuresOfRow l → FirstLargest left right (suc row) 0 l
   at-next-row row largest.Nowhere f = λ k j e h before q. f k j e h (row-before k j row h before) q
@@ -194,5 +194,5 @@ largest-is-first left right zero = λ k j e h before q. none-yet k j before
     none-yet k j (inl l) = omega (arith, l)
     none-yet k j (inr p) = omega (arith, p .1)
 largest-is-first left right (suc row) =
-    at-next-row left right row (largestInRow left right (largestOf left right row) row figuresOfRow)
+    at-next-row left right row (largestInRow (rowAt left row) (rowAt right row) (largestOf left right row) row figuresOfRow)
     (in-row left right row figuresOfRow (omega arith) (largestOf left right row) (largest-is-first left right row))

@@ -7,16 +7,16 @@ use native.Mathlib.Omega.{arith}
 use lib.ListN.{length, length-append, drop, getD}
 use lib.Seq.{drop-at, getD-at}
 use Rattle.files_words.specs.Bytes.{words, wordsFrom, wordAt, asBytes, Below}
-use Rattle.files_words.proofs.WordLaws.{length-as-bytes, as-bytes-append, words-as-bytes, word-whole, words-later, word-of-words, below-append}
+use Rattle.files_words.proofs.WordLaws.{length-as-bytes, as-bytes-append, words-as-bytes, word-whole, word-in-part, words-later, word-of-words, length-words-from, below-append}
 use Rattle.files_sections.specs.declared.checks.Check.the-variants.{Sound, Fault}
 use Rattle.files_sections.specs.Checks.{_⟫_, editionCheck, filledCheck}
-use Rattle.files_sections.specs.ResultLayout.{resultEdition, rowWords, countPlace, rowPlace, rowRefusal, rowFigures, figuresOfRow}
+use Rattle.files_sections.specs.ResultLayout.{resultEdition, rowWords, rowBytes, countPlace, rowPlace, rowRefusal, rowFigures, figuresOfRow}
 use Rattle.files_sections.proofs.CheckLaws.{sound-both}
 use Rattle.files_sections.proofs.CountedLaws.{sound-filled, left-behind, sound-edition}
 use Rattle.files_told.specs.declared.told.Rows.{Rows}
 use Rattle.files_told.specs.declared.told.Comparison.the-variants as comparison
 use Rattle.files_told.specs.Told.{rowsOf, rowsWord, figureIn, figureWords}
-use Rattle.files_compare.specs.Compare.{mostRows, resultsCheck, rowsIn, field, rowsAt, figureAt, figuresTold, rowTold, rowsTold, largestOf, toldWords}
+use Rattle.files_compare.specs.Compare.{mostRows, resultsCheck, rowsIn, wordIn, rowsOn, figureOn, figuresTold, rowTold, rowAt, rowsTold, largestOf, toldWords}
 use Rattle.files_compare.specs.ComparePromise.{RefusedFileIs25, Row, wordsIn, IsRow, AreRows, allWords, fileOf, figuresBetween, between, allBetween, ComparesRows}
 use Rattle.files_compare.proofs.Orders.{refuses-in-order, keeps-or-tells}
 
@@ -83,18 +83,27 @@ all-below [] h = tt
 all-below (r ∷ rs) h = below-append (2 ^ 64) (wordsIn r) (allWords rs) (h .0 .are-words) (all-below rs (h .1))
 
 -- ---- Row k of a file, where the words of a row stand.
-module _ (file : List ℕ) (k : ℕ) (r : Row) (rest : List ℕ) (here : wordsFrom file (rowPlace k) ≡ wordsIn r ++ rest) where
-  word-is : (n : ℕ) → field file k n ≡ getD (wordsIn r ++ rest) n 0
-  word-is n = sym (word-of-words file (rowPlace k) n) ∙ ap (λ (ws : List ℕ). getD ws n 0) here
+module _ (file : List ℕ) (k : ℕ) (r : Row) (is : IsRow r) (rest : List ℕ) (here : wordsFrom file (rowPlace k) ≡ wordsIn r ++ rest) where
+  whole : rowPlace k + rowBytes ≤ length file
+  whole = omega (arith, length-words-from file (rowPlace k), ap length here, length-append (wordsIn r) rest, row-words r is)
 
-  refusal-is : field file k rowRefusal ≡ r .refusal
-  refusal-is = word-is rowRefusal
+  word-is : (n : ℕ) → n < rowWords → wordIn (rowAt file k) n ≡ getD (wordsIn r ++ rest) n 0
+  unfolding rowAt
+  word-is n h =
+      word-in-part file (rowPlace k) rowBytes (8 * n) (omega arith) whole
+      ∙ sym (word-of-words file (rowPlace k) n)
+      ∙ ap (λ (ws : List ℕ). getD ws n 0) here
 
-  figure-is : (n : ℕ) → field file k (rowFigures + n) ≡ getD (r .figures ++ rest) n 0
-  figure-is n = let two : rowFigures + n ≡ suc (suc n) = omega arith in word-is (rowFigures + n) ∙ ap (λ (m : ℕ). getD (wordsIn r ++ rest) m 0) two
+  refusal-is : wordIn (rowAt file k) rowRefusal ≡ r .refusal
+  refusal-is = word-is rowRefusal (omega arith)
 
-  next-here : IsRow r → wordsFrom file (rowPlace (suc k)) ≡ rest
-  next-here is =
+  figure-is : (n : ℕ) → n < length (r .figures) → wordIn (rowAt file k) (rowFigures + n) ≡ getD (r .figures ++ rest) n 0
+  figure-is n h =
+      let two : rowFigures + n ≡ suc (suc n) = omega arith in
+      word-is (rowFigures + n) (omega (arith, is .nine)) ∙ ap (λ (m : ℕ). getD (wordsIn r ++ rest) m 0) two
+
+  next-here : wordsFrom file (rowPlace (suc k)) ≡ rest
+  next-here =
       let next : rowPlace (suc k) ≡ rowPlace k + 8 * rowWords = omega arith in
       ap (wordsFrom file) next ∙ words-later file (rowPlace k) rowWords ∙ ap (drop rowWords) here ∙ drop-at (wordsIn r) rest rowWords (row-words r is)
 
@@ -114,7 +123,7 @@ module _ (are : Rows) where
       ∙ sym (append-assoc (figureWords (figureIn are (vs j) (ws j))) (from vs ws (suc j) n) (figureWords (figureIn are (vs (j + suc n)) (ws (j + suc n)))))
 
   by-lists : (vs ws : List ℕ) (restV restW : List ℕ) (f g : ℕ → ℕ) (j : ℕ) → length vs ≡ length ws →
-      ((m : ℕ) → f (j + m) ≡ getD (vs ++ restV) m 0) → ((m : ℕ) → g (j + m) ≡ getD (ws ++ restW) m 0) → from f g j (length vs) ≡ figuresBetween are vs ws
+      ((m : ℕ) → m < length vs → f (j + m) ≡ getD (vs ++ restV) m 0) → ((m : ℕ) → m < length ws → g (j + m) ≡ getD (ws ++ restW) m 0) → from f g j (length vs) ≡ figuresBetween are vs ws
   unfolding from
   by-lists [] [] restV restW f g j e p q = refl
   by-lists [] (w ∷ ws) restV restW f g j e p q = refl
@@ -122,70 +131,82 @@ module _ (are : Rows) where
   by-lists (v ∷ vs) (w ∷ ws) restV restW f g j e p q =
       let later : (m : ℕ) → suc j + m ≡ j + suc m = λ m. omega arith in
       ap₂ _++_
-      (ap₂ (λ (a b : ℕ). figureWords (figureIn are a b)) (ap f (sym (add-zero j)) ∙ p 0) (ap g (sym (add-zero j)) ∙ q 0))
-      (by-lists vs ws restV restW f g (suc j) (omega arith) (λ m. ap f (later m) ∙ p (suc m)) (λ m. ap g (later m) ∙ q (suc m)))
+      (ap₂ (λ (a b : ℕ). figureWords (figureIn are a b)) (ap f (sym (add-zero j)) ∙ p 0 (omega arith)) (ap g (sym (add-zero j)) ∙ q 0 (omega arith)))
+      (by-lists vs ws restV restW f g (suc j) (omega arith) (λ m h. ap f (later m) ∙ p (suc m) (omega arith)) (λ m h. ap g (later m) ∙ q (suc m) (omega arith)))
 
-told-from : (left right : List ℕ) (k n : ℕ) →
-    figuresTold left right k n ≡ from (rowsAt left right k) (λ m. field left k (rowFigures + m)) (λ m. field right k (rowFigures + m)) 0 n
+-- What is told of the first figures of two rows, by their numbers.
+told-from : (l r : List ℕ) (n : ℕ) → figuresTold l r n ≡ from (rowsOn l r) (λ m. wordIn l (rowFigures + m)) (λ m. wordIn r (rowFigures + m)) 0 n
 unfolding figuresTold from
-told-from left right k zero = refl
-told-from left right k (suc n) =
-    let are = rowsAt left right k in
-    let so-far = from are (λ m. field left k (rowFigures + m)) (λ m. field right k (rowFigures + m)) 0 n in
+told-from l r zero = refl
+told-from l r (suc n) =
+    let are = rowsOn l r in
+    let so-far = from are (λ m. wordIn l (rowFigures + m)) (λ m. wordIn r (rowFigures + m)) 0 n in
     let here : n ≡ 0 + n = omega arith in
-    ap (λ (l : List ℕ). l ++ figureWords (figureAt left right k n)) (told-from left right k n)
-    ∙ ap (λ (j : ℕ). so-far ++ figureWords (figureAt left right k j)) here
-    ∙ sym (snoc are (λ m. field left k (rowFigures + m)) (λ m. field right k (rowFigures + m)) 0 n)
+    ap (λ (ws : List ℕ). ws ++ figureWords (figureOn l r n)) (told-from l r n)
+    ∙ ap (λ (j : ℕ). so-far ++ figureWords (figureOn l r j)) here
+    ∙ sym (snoc are (λ m. wordIn l (rowFigures + m)) (λ m. wordIn r (rowFigures + m)) 0 n)
 
 -- ---- Rows.
-at-zero : (file : List ℕ) (k : ℕ) (r : Row) (rest : List ℕ) → wordsFrom file (rowPlace k) ≡ wordsIn r ++ rest → (n : ℕ) → field file k (rowFigures + (0 + n)) ≡ getD (r .figures ++ rest) n 0
-at-zero file k r rest here n = let z : 0 + n ≡ n = omega arith in ap (λ (m : ℕ). field file k (rowFigures + m)) z ∙ figure-is file k r rest here n
+at-zero : (file : List ℕ) (k : ℕ) (r : Row) → IsRow r → (rest : List ℕ) → wordsFrom file (rowPlace k) ≡ wordsIn r ++ rest → (n : ℕ) → n < length (r .figures) →
+    wordIn (rowAt file k) (rowFigures + (0 + n)) ≡ getD (r .figures ++ rest) n 0
+at-zero file k r is rest here n h =
+    let z : 0 + n ≡ n = omega arith in
+    ap (λ (m : ℕ). wordIn (rowAt file k) (rowFigures + m)) z ∙ figure-is file k r is rest here n h
 
 module _ (left right : List ℕ) (k : ℕ) (l r : Row) (restL restR : List ℕ)
     (il : IsRow l) (ir : IsRow r)
     (hl : wordsFrom left (rowPlace k) ≡ wordsIn l ++ restL) (hr : wordsFrom right (rowPlace k) ≡ wordsIn r ++ restR) where
-  row-between : rowTold left right k ≡ between l r
+  abbrev one : List ℕ
+  one = rowAt left k
+
+  abbrev other : List ℕ
+  other = rowAt right k
+
+  row-between : rowTold one other ≡ between l r
   row-between =
-      let are : rowsAt left right k ≡ rowsOf (l .refusal) (r .refusal) = ap₂ rowsOf (refusal-is left k l restL hl) (refusal-is right k r restR hr) in
+      let are : rowsOn one other ≡ rowsOf (l .refusal) (r .refusal) = ap₂ rowsOf (refusal-is left k l il restL hl) (refusal-is right k r ir restR hr) in
       let figures =
-      ap (λ (n : ℕ). from (rowsAt left right k) (λ m. field left k (rowFigures + m)) (λ m. field right k (rowFigures + m)) 0 n) (sym (il .nine))
-      ∙ by-lists (rowsAt left right k) (l .figures) (r .figures) restL restR (λ m. field left k (rowFigures + m)) (λ m. field right k (rowFigures + m)) 0
-      (il .nine ∙ sym (ir .nine)) (at-zero left k l restL hl) (at-zero right k r restR hr)
+      ap (λ (n : ℕ). from (rowsOn one other) (λ m. wordIn one (rowFigures + m)) (λ m. wordIn other (rowFigures + m)) 0 n) (sym (il .nine))
+      ∙ by-lists (rowsOn one other) (l .figures) (r .figures) restL restR (λ m. wordIn one (rowFigures + m)) (λ m. wordIn other (rowFigures + m)) 0
+      (il .nine ∙ sym (ir .nine)) (at-zero left k l il restL hl) (at-zero right k r ir restR hr)
       in
-      ap (λ (ws : List ℕ). rowsWord (rowsAt left right k) ∷ ws) (told-from left right k figuresOfRow ∙ figures)
+      ap (λ (ws : List ℕ). rowsWord (rowsOn one other) ∷ ws) (told-from one other figuresOfRow ∙ figures)
       ∙ ap (λ (a : Rows). rowsWord a ∷ figuresBetween a (l .figures) (r .figures)) are
 
 -- What is told of rows, from row k on.
+rowOf : (left right : List ℕ) (k : ℕ) → List ℕ
+rowOf left right k = rowTold (rowAt left k) (rowAt right k)
+
 rowsFrom : (left right : List ℕ) (k n : ℕ) → List ℕ
 rowsFrom left right k zero = []
-rowsFrom left right k (suc n) = rowTold left right k ++ rowsFrom left right (suc k) n
+rowsFrom left right k (suc n) = rowOf left right k ++ rowsFrom left right (suc k) n
 
-rows-snoc : (left right : List ℕ) (k n : ℕ) → rowsFrom left right k (suc n) ≡ rowsFrom left right k n ++ rowTold left right (k + n)
+rows-snoc : (left right : List ℕ) (k n : ℕ) → rowsFrom left right k (suc n) ≡ rowsFrom left right k n ++ rowOf left right (k + n)
 unfolding rowsFrom
-rows-snoc left right k zero = append-nil (rowTold left right k) ∙ ap (rowTold left right) (sym (add-zero k))
+rows-snoc left right k zero = append-nil (rowOf left right k) ∙ ap (rowOf left right) (sym (add-zero k))
 rows-snoc left right k (suc n) =
     let at : suc k + n ≡ k + suc n = omega arith in
-    ap (λ (l : List ℕ). rowTold left right k ++ l) (rows-snoc left right (suc k) n ∙ ap (λ (m : ℕ). rowsFrom left right (suc k) n ++ rowTold left right m) at)
-    ∙ sym (append-assoc (rowTold left right k) (rowsFrom left right (suc k) n) (rowTold left right (k + suc n)))
+    ap (λ (l : List ℕ). rowOf left right k ++ l) (rows-snoc left right (suc k) n ∙ ap (λ (m : ℕ). rowsFrom left right (suc k) n ++ rowOf left right m) at)
+    ∙ sym (append-assoc (rowOf left right k) (rowsFrom left right (suc k) n) (rowOf left right (k + suc n)))
 
 rows-from : (left right : List ℕ) (n : ℕ) → rowsTold left right n ≡ rowsFrom left right 0 n
-unfolding rowsTold rowsFrom
+unfolding rowsTold rowsFrom rowOf
 rows-from left right zero = refl
 rows-from left right (suc n) =
     let here : n ≡ 0 + n = omega arith in
-    ap (λ (l : List ℕ). l ++ rowTold left right n) (rows-from left right n)
-    ∙ ap (λ (j : ℕ). rowsFrom left right 0 n ++ rowTold left right j) here
+    ap (λ (l : List ℕ). l ++ rowOf left right n) (rows-from left right n)
+    ∙ ap (λ (j : ℕ). rowsFrom left right 0 n ++ rowOf left right j) here
     ∙ sym (rows-snoc left right 0 n)
 
 each : (left right : List ℕ) (k : ℕ) (ls rs : List Row) → AreRows ls → AreRows rs → length ls ≡ length rs →
     wordsFrom left (rowPlace k) ≡ allWords ls → wordsFrom right (rowPlace k) ≡ allWords rs → rowsFrom left right k (length ls) ≡ allBetween ls rs
-unfolding rowsFrom
+unfolding rowsFrom rowOf
 each left right k [] [] al ar e hl hr = refl
 each left right k [] (r ∷ rs) al ar e hl hr = refl
 each left right k (l ∷ ls) [] al ar e hl hr = absurd (omega arith)
 each left right k (l ∷ ls) (r ∷ rs) al ar e hl hr =
     ap₂ _++_ (row-between left right k l r (allWords ls) (allWords rs) (al .0) (ar .0) hl hr)
-    (each left right (suc k) ls rs (al .1) (ar .1) (omega arith) (next-here left k l (allWords ls) hl (al .0)) (next-here right k r (allWords rs) hr (ar .0)))
+    (each left right (suc k) ls rs (al .1) (ar .1) (omega arith) (next-here left k l (al .0) (allWords ls) hl) (next-here right k r (ar .0) (allWords rs) hr))
 
 pub compares-rows : ComparesRows
 compares-rows ls rs al ar same few run fits =

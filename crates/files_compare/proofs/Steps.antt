@@ -10,7 +10,7 @@ use Rattle.files_sections.specs.ResultLayout.{figuresOfRow}
 use Rattle.files_told.specs.declared.told.Figure.{Figure}
 use Rattle.files_told.specs.declared.told.Figure.the-variants as figure
 use Rattle.files_told.specs.Told.{figureWords}
-use Rattle.files_compare.specs.Compare.{figureAt, figuresTold, rowTold, rowsTold, toldWords}
+use Rattle.files_compare.specs.Compare.{figureOn, figuresTold, rowTold, rowAt, rowsTold, toldWords}
 
 figure-length : (f : Figure) → length (figureWords f) ≡ 2
 unfolding figureWords
@@ -19,33 +19,39 @@ figure-length figure.EqualBits = refl
 figure-length figure.UnequalBits = refl
 figure-length figure.Untold = refl
 
-module _ (left right : List ℕ) where
-  pub figures-length : (k n : ℕ) → length (figuresTold left right k n) ≡ 2 * n
+module _ (l r : List ℕ) where
+  pub figures-length : (n : ℕ) → length (figuresTold l r n) ≡ 2 * n
   unfolding figuresTold
-  figures-length k zero = refl
-  figures-length k (suc n) =
-      length-append (figuresTold left right k n) (figureWords (figureAt left right k n))
-      ∙ omega (arith, figures-length k n, figure-length (figureAt left right k n))
+  figures-length zero = refl
+  figures-length (suc n) =
+      length-append (figuresTold l r n) (figureWords (figureOn l r n))
+      ∙ omega (arith, figures-length n, figure-length (figureOn l r n))
 
-  pub row-length : (k : ℕ) → length (rowTold left right k) ≡ toldWords
-  row-length k = ap suc (figures-length k figuresOfRow)
+  pub row-length : length (rowTold l r) ≡ toldWords
+  row-length = ap suc (figures-length figuresOfRow)
+
+  pub next-figure : (run : List ℕ) (at n : ℕ) → at + 2 * suc n ≤ length run →
+      put (put run at (figuresTold l r n)) (at + 2 * n) (figureWords (figureOn l r n)) ≡ put run at (figuresTold l r (suc n))
+  unfolding figuresTold
+  next-figure run at n h =
+      let e = figures-length n in
+      put-next run (figuresTold l r n) (figureWords (figureOn l r n)) at (at + 2 * n) (omega (arith, e)) (omega (arith, e, figure-length (figureOn l r n)))
+
+module _ (left right : List ℕ) where
+  abbrev rowOf : (n : ℕ) → List ℕ
+  rowOf n = rowTold (rowAt left n) (rowAt right n)
+
+  row-of-length : (n : ℕ) → length (rowOf n) ≡ toldWords
+  row-of-length n = row-length (rowAt left n) (rowAt right n)
 
   pub rows-length : (n : ℕ) → length (rowsTold left right n) ≡ toldWords * n
   unfolding rowsTold
   rows-length zero = refl
-  rows-length (suc n) = length-append (rowsTold left right n) (rowTold left right n) ∙ omega (arith, rows-length n, row-length n)
-
-  pub next-figure : (run : List ℕ) (at k n : ℕ) → at + 2 * suc n ≤ length run →
-      put (put run at (figuresTold left right k n)) (at + 2 * n) (figureWords (figureAt left right k n)) ≡ put run at (figuresTold left right k (suc n))
-  unfolding figuresTold
-  next-figure run at k n h =
-      let l = figures-length k n in
-      put-next run (figuresTold left right k n) (figureWords (figureAt left right k n)) at (at + 2 * n) (omega (arith, l))
-      (omega (arith, l, figure-length (figureAt left right k n)))
+  rows-length (suc n) = length-append (rowsTold left right n) (rowOf n) ∙ omega (arith, rows-length n, row-of-length n)
 
   pub next-row : (run : List ℕ) (n : ℕ) → toldWords * suc n ≤ length run →
-      put (put run 0 (rowsTold left right n)) (toldWords * n) (rowTold left right n) ≡ put run 0 (rowsTold left right (suc n))
+      put (put run 0 (rowsTold left right n)) (toldWords * n) (rowOf n) ≡ put run 0 (rowsTold left right (suc n))
   unfolding rowsTold
   next-row run n h =
-      let l = rows-length n in
-      put-next run (rowsTold left right n) (rowTold left right n) 0 (toldWords * n) (omega (arith, l)) (omega (arith, l, row-length n))
+      let e = rows-length n in
+      put-next run (rowsTold left right n) (rowOf n) 0 (toldWords * n) (omega (arith, e)) (omega (arith, e, row-of-length n))

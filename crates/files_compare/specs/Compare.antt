@@ -3,14 +3,14 @@
 use mathlib.Core.List.{List, [], _∷_, _++_}
 use Prim.Native.Nat.{ℕ, zero, suc, _+_, _*_}
 use lib.Dec.{eqb, leb}
-use lib.ListN.{length, drop}
+use lib.ListN.{length, take, drop}
 use Rattle.files_words.specs.Bytes.{wordAt}
 use Rattle.files_sections.specs.declared.checks.Check.{Check}
 use Rattle.files_sections.specs.declared.checks.Check.the-variants.{Sound, Fault}
 use Rattle.files_sections.specs.declared.sections.Section.the-variants.{Requests}
 use Rattle.files_sections.specs.Checks.{need, _⟫_, editionCheck, filledCheck}
 use Rattle.files_sections.specs.Sections.{limitOf}
-use Rattle.files_sections.specs.ResultLayout.{resultEdition, rowWords, countPlace, rowPlace, rowRefusal, rowFigures, figuresOfRow}
+use Rattle.files_sections.specs.ResultLayout.{resultEdition, rowWords, rowBytes, countPlace, rowPlace, rowRefusal, rowFigures, figuresOfRow}
 use Rattle.files_told.specs.declared.told.Rows.{Rows}
 use Rattle.files_told.specs.declared.told.Figure.{Figure}
 use Rattle.files_told.specs.declared.told.Largest.{Largest}
@@ -32,41 +32,52 @@ resultsCheck file = editionCheck file resultEdition ⟫ filledCheck file countPl
 abbrev pub rowsIn : List ℕ → ℕ
 rowsIn file = wordAt file countPlace
 
--- Word n of row k.
-abbrev pub field : List ℕ → (k n : ℕ) → ℕ
-field file k n = wordAt file (rowPlace k + 8 * n)
+-- ---- Two rows, by their bytes. Word n of a row:
+abbrev pub wordIn : (row : List ℕ) (n : ℕ) → ℕ
+wordIn row n = wordAt row (8 * n)
 
--- ---- "For each row and figure".
-module _ (left right : List ℕ) where
-  -- What rows k are; and what is told of their figure j, the first being figure 0.
-  abbrev pub rowsAt : (k : ℕ) → Rows
-  rowsAt k = rowsOf (field left k rowRefusal) (field right k rowRefusal)
+module _ (l r : List ℕ) where
+  -- What they are; and what is told of their figure j, the first being figure 0.
+  abbrev pub rowsOn : Rows
+  rowsOn = rowsOf (wordIn l rowRefusal) (wordIn r rowRefusal)
 
-  abbrev pub figureAt : (k j : ℕ) → Figure
-  figureAt k j = figureIn (rowsAt k) (field left k (rowFigures + j)) (field right k (rowFigures + j))
+  abbrev pub figureOn : (j : ℕ) → Figure
+  figureOn j = figureIn rowsOn (wordIn l (rowFigures + j)) (wordIn r (rowFigures + j))
 
-  -- The words of the first n figures of rows k, a kind and a distance each; 19 words for rows k; those of the first n rows.
-  unfoldable pub figuresTold : (k n : ℕ) → List ℕ
-  figuresTold k zero = []
-  figuresTold k (suc n) = figuresTold k n ++ figureWords (figureAt k n)
+  -- The words of their first n figures, a kind and a distance each; and all 19.
+  unfoldable pub figuresTold : (n : ℕ) → List ℕ
+  figuresTold zero = []
+  figuresTold (suc n) = figuresTold n ++ figureWords (figureOn n)
 
-  abbrev pub rowTold : (k : ℕ) → List ℕ
-  rowTold k = rowsWord (rowsAt k) ∷ figuresTold k figuresOfRow
+  abbrev pub rowTold : List ℕ
+  rowTold = rowsWord rowsOn ∷ figuresTold figuresOfRow
 
-  unfoldable pub rowsTold : (n : ℕ) → List ℕ
-  rowsTold zero = []
-  rowsTold (suc n) = rowsTold n ++ rowTold n
-
-  -- "the first largest distance": with the first n figures of rows k, after what is known of the rows before; and of the first n rows.
+  -- The first largest distance with their first n figures, after what is known of those before; they are rows k.
   unfoldable pub largestInRow : Largest → (k n : ℕ) → Largest
   largestInRow known k zero = known
-  largestInRow known k (suc n) = largestWith (largestInRow known k n) k (rowFigures + n) (figureAt k n)
+  largestInRow known k (suc n) = largestWith (largestInRow known k n) k (rowFigures + n) (figureOn n)
+
+-- ---- "For each row and figure". Row k of a file:
+unfoldable pub rowAt : List ℕ → (k : ℕ) → List ℕ
+rowAt file k = take rowBytes (drop (rowPlace k) file)
+
+module _ (left right : List ℕ) where
+  abbrev pub rowsAt : (k : ℕ) → Rows
+  rowsAt k = rowsOn (rowAt left k) (rowAt right k)
+
+  abbrev pub figureAt : (k j : ℕ) → Figure
+  figureAt k j = figureOn (rowAt left k) (rowAt right k) j
+
+  -- What is told of the first n rows, and the first largest distance of all of them.
+  unfoldable pub rowsTold : (n : ℕ) → List ℕ
+  rowsTold zero = []
+  rowsTold (suc n) = rowsTold n ++ rowTold (rowAt left n) (rowAt right n)
 
   unfoldable pub largestOf : (n : ℕ) → Largest
   largestOf zero = largest.Nowhere
-  largestOf (suc n) = largestInRow (largestOf n) n figuresOfRow
+  largestOf (suc n) = largestInRow (rowAt left n) (rowAt right n) (largestOf n) n figuresOfRow
 
--- The words that are told of a row, and of n rows.
+-- The words that are told of a row.
 abbrev pub toldWords : ℕ
 toldWords = 19
 

@@ -8,7 +8,7 @@ use Rattle.bits.specs.Words.{infinity, minusZero}
 use Rattle.files_words.specs.Bytes.{numberOf, bytesOf, asBytes, words, wordsFrom, wordAt}
 use Rattle.files_sections.specs.Checks.{walk, countCheck, countedCheck, editionCheck, filledCheck}
 use Rattle.files_told.specs.Told.{rowsOf, rowsWord, figureOf, figureIn, figureWords, largestWith, comparisonWords}
-use Rattle.files_compare.specs.Compare.{resultsCheck, figuresTold, rowsTold, largestInRow, largestOf, comparisonOf, runAfter}
+use Rattle.files_compare.specs.Compare.{resultsCheck, figuresTold, rowAt, rowsTold, largestInRow, largestOf, comparisonOf, runAfter}
 
 -- ---- Words.
 abbrev one : ℕ
@@ -101,7 +101,7 @@ file count rows = asBytes (1 ∷ count ∷ rows)
 
 -- Each pair of rows of the table, in one pair of files; the word behind those that are told stays.
 pub marked : runAfter (file (length table) (leftRows table)) (file (length table) (rightRows table)) (replicate (19 * length table) 9 ++ (7 ∷ [])) ≡ allTold table
-unfolding runAfter comparisonOf resultsCheck editionCheck filledCheck countedCheck countCheck walk words wordsFrom wordAt numberOf bytesOf asBytes rowsTold figuresTold largestOf largestInRow largestWith rowsOf rowsWord figureIn figureOf figureWords ofBits
+unfolding runAfter comparisonOf resultsCheck editionCheck filledCheck countedCheck countCheck walk words wordsFrom wordAt numberOf bytesOf asBytes rowsTold rowAt figuresTold largestOf largestInRow largestWith rowsOf rowsWord figureIn figureOf figureWords ofBits
 marked = refl
 
 -- ---- Files: their bytes, the words lent for the rows, and the seven words that are answered.
@@ -159,5 +159,5 @@ files =
     ∷ []
 
 pub marked-files : map (λ (c : FileCase). comparisonWords (comparisonOf (c .left) (c .right) (c .room))) files ≡ map (λ (c : FileCase). c .answer) files
-unfolding comparisonWords comparisonOf resultsCheck editionCheck filledCheck countedCheck countCheck walk words wordsFrom wordAt numberOf bytesOf asBytes largestOf largestInRow largestWith rowsOf figureIn figureOf ofBits
+unfolding comparisonWords comparisonOf resultsCheck editionCheck filledCheck countedCheck countCheck walk words wordsFrom wordAt numberOf bytesOf asBytes rowAt largestOf largestInRow largestWith rowsOf figureIn figureOf ofBits
 marked-files = refl

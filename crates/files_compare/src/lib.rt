@@ -4,9 +4,9 @@ ghost use mathlib.Core.List.{_∷_};
 ghost use Prim.Native.Nat.{_+_, _*_, _<_, _≤_};
 ghost use lib.ListN.{length};
 ghost use Rattle.files_words.specs.Bytes.{put};
-ghost use Rattle.files_sections.specs.ResultLayout.{rowPlace, rowWords, figuresOfRow};
+ghost use Rattle.files_sections.specs.ResultLayout.{rowPlace, rowBytes, figuresOfRow};
 ghost use Rattle.files_told.specs.Told.{figureWords, rowsWord};
-ghost use Rattle.files_compare.specs.Compare.{mostRows, toldWords, resultsCheck, rowsIn, field, rowsAt, figureAt, figuresTold, rowTold, rowsTold, largestInRow, largestOf, comparisonOf, runAfter};
+ghost use Rattle.files_compare.specs.Compare.{mostRows, toldWords, resultsCheck, rowsOn, figuresTold, rowTold, rowAt, rowsTold, largestInRow, largestOf, comparisonOf, runAfter};
 use files_sections::Check;
 use files_sections::MOST_REQUESTS;
 use files_sections::check_edition;
@@ -16,6 +16,7 @@ use files_sections::results::COUNT_PLACE;
 use files_sections::results::FIGURES_OF_ROW;
 use files_sections::results::HEAD_WORDS;
 use files_sections::results::RESULT_EDITION;
+use files_sections::results::ROW_BYTES;
 use files_sections::results::ROW_FIGURES;
 use files_sections::results::ROW_REFUSAL;
 use files_sections::results::ROW_WORDS;
@@ -44,14 +45,6 @@ fn check_results(file: &[u8]) -> Check
     )
 }
 
-// Word n of row k.
-fn field_at(file: &[u8], k: usize, n: usize) -> u64
-    requires { ⌜ (k < mostRows) × (n < rowWords) ⌝ }
-    ensures { λ r. ⌜ r ≡ field (now (file .entry)) k n ⌝ }
-{
-    word_at(file, 8 * (HEAD_WORDS + ROW_WORDS * k) + 8 * n)
-}
-
 // What is told of a figure, put to a run.
 fn put_figure(run: &mut [u64], at: usize, figure: Figure)
     requires { ⌜ at + 2 ≤ length (now run) ⌝ }
@@ -62,25 +55,25 @@ fn put_figure(run: &mut [u64], at: usize, figure: Figure)
     run[at + 1] = words[1];
 }
 
-// The figures of rows k, told to their place in a run; and the first largest distance with theirs.
-fn compare_figures(
-    left: &[u8],
-    right: &[u8],
+// The figures of two rows, which are rows k, told to their place in a run; and the first largest distance with theirs.
+fn tell_figures(
+    l: &[u8],
+    r: &[u8],
     k: usize,
     rows: Rows,
     run: &mut [u64],
     known: Largest,
 ) -> Largest
-    requires { ⌜ (k < mostRows) × (toldWords * k + toldWords ≤ length (now run)) × (rows ≡ rowsAt (now left) (now right) k) ⌝ }
-    ensures run { λ _. ⌜ now (run .exit) ≡ put (now (run .entry)) (toldWords * k + 1) (figuresTold (now (left .entry)) (now (right .entry)) k figuresOfRow) ⌝ }
-    ensures largest { λ r. ⌜ r ≡ largestInRow (now (left .entry)) (now (right .entry)) known k figuresOfRow ⌝ }
+    requires { ⌜ (k < mostRows) × (toldWords * k + toldWords ≤ length (now run)) × (rows ≡ rowsOn (now l) (now r)) ⌝ }
+    ensures run { λ _. ⌜ now (run .exit) ≡ put (now (run .entry)) (toldWords * k + 1) (figuresTold (now (l .entry)) (now (r .entry)) figuresOfRow) ⌝ }
+    ensures largest { λ x. ⌜ x ≡ largestInRow (now (l .entry)) (now (r .entry)) known k figuresOfRow ⌝ }
 {
     let mut largest = known;
     let mut rest = FIGURES_OF_ROW;
     while 0 < rest {
         let j = FIGURES_OF_ROW - rest;
         let word = ROW_FIGURES + j;
-        let figure = figure_in(rows, field_at(left, k, word), field_at(right, k, word));
+        let figure = figure_in(rows, word_at(l, 8 * word), word_at(r, 8 * word));
         put_figure(run, TOLD_WORDS * k + 1 + 2 * j, figure);
         largest = largest_with(largest, k, word, figure);
         rest -= 1;
@@ -88,23 +81,31 @@ fn compare_figures(
     largest
 }
 
-// Rows k, told to their place in a run; and the first largest distance with theirs.
-fn compare_row(left: &[u8], right: &[u8], k: usize, run: &mut [u64], known: Largest) -> Largest
+// Two rows, which are rows k, told to their place in a run; and the first largest distance with theirs.
+fn tell_row(l: &[u8], r: &[u8], k: usize, run: &mut [u64], known: Largest) -> Largest
     requires { ⌜ (k < mostRows) × (toldWords * k + toldWords ≤ length (now run)) ⌝ }
-    ensures run { λ _. ⌜ now (run .exit) ≡ put (now (run .entry)) (toldWords * k) (rowTold (now (left .entry)) (now (right .entry)) k) ⌝ }
-    ensures largest { λ r. ⌜ r ≡ largestInRow (now (left .entry)) (now (right .entry)) known k figuresOfRow ⌝ }
+    ensures run { λ _. ⌜ now (run .exit) ≡ put (now (run .entry)) (toldWords * k) (rowTold (now (l .entry)) (now (r .entry))) ⌝ }
+    ensures largest { λ x. ⌜ x ≡ largestInRow (now (l .entry)) (now (r .entry)) known k figuresOfRow ⌝ }
 {
-    let rows = rows_of(
-        field_at(left, k, ROW_REFUSAL),
-        field_at(right, k, ROW_REFUSAL),
-    );
+    let rows = rows_of(word_at(l, 8 * ROW_REFUSAL), word_at(r, 8 * ROW_REFUSAL));
     run[TOLD_WORDS * k] = rows_word(rows);
-    compare_figures(left, right, k, rows, run, known)
+    tell_figures(l, r, k, rows, run, known)
+}
+
+// Rows k of two files that have them.
+fn compare_row(left: &[u8], right: &[u8], k: usize, run: &mut [u64], known: Largest) -> Largest
+    requires { ⌜ (k < mostRows) × (toldWords * k + toldWords ≤ length (now run)) × (rowPlace k + rowBytes ≤ length (now left)) × (rowPlace k + rowBytes ≤ length (now right)) ⌝ }
+    ensures run { λ _. ⌜ now (run .exit) ≡ put (now (run .entry)) (toldWords * k) (rowTold (rowAt (now (left .entry)) k) (rowAt (now (right .entry)) k)) ⌝ }
+    ensures largest { λ x. ⌜ x ≡ largestInRow (rowAt (now (left .entry)) k) (rowAt (now (right .entry)) k) known k figuresOfRow ⌝ }
+{
+    let at = 8 * (HEAD_WORDS + ROW_WORDS * k);
+    let end = at + ROW_BYTES;
+    tell_row(&left[at..end], &right[at..end], k, run, known)
 }
 
 // So many rows, told to a run one after another; and the first largest distance of all.
 fn compare_rows(left: &[u8], right: &[u8], count: usize, run: &mut [u64]) -> Largest
-    requires { ⌜ (count ≤ mostRows) × (toldWords * count ≤ length (now run)) ⌝ }
+    requires { ⌜ (count ≤ mostRows) × (toldWords * count ≤ length (now run)) × (rowPlace count ≤ length (now left)) × (rowPlace count ≤ length (now right)) ⌝ }
     ensures run { λ _. ⌜ now (run .exit) ≡ put (now (run .entry)) 0 (rowsTold (now (left .entry)) (now (right .entry)) count) ⌝ }
     ensures largest { λ r. ⌜ r ≡ largestOf (now (left .entry)) (now (right .entry)) count ⌝ }
 {

@@ -6,8 +6,10 @@ pub const RESULT_EDITION: u64 = 1;
 pub const HEAD_WORDS: usize = 2;
 // The place of the count.
 pub const COUNT_PLACE: usize = 8;
-// The words of a row.
+// The words of a row, and its bytes.
 pub const ROW_WORDS: usize = 11;
+
+pub const ROW_BYTES: usize = 8 * ROW_WORDS;
 
 // Which they are: the refusal or 0, the points, and nine figures: position, velocity, acceleration at the end.
 pub const ROW_REFUSAL: usize = 0;

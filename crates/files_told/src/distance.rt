@@ -1,14 +1,18 @@
 // The distance of two doubles in last places.
 ghost use mathlib.Core.Path.{_≡_};
 ghost use Rattle.files_told.specs.Distance.{distanceOf};
-use bits::words::line_of;
+use bits::words::SIGN;
 
-// How far two words are apart on the line of doubles: 1 for neighbours, and 0 for the two zeros.
+// How far two words are apart on the line of doubles: 1 for neighbours, and 0 for the two zeros. Without its sign bit a word says how many steps it is from zero: on two sides of zero these
+// add up, and on one side they are taken from one another.
 pub fn distance_of(v: u64, w: u64) -> u64
     ensures { λ r. ⌜ r ≡ distanceOf v w ⌝ }
 {
-    let one = line_of(v);
-    let other = line_of(w);
+    let one = v % SIGN;
+    let other = w % SIGN;
+    if v / SIGN != w / SIGN {
+        return one + other;
+    }
     if one < other {
         return other - one;
     }

@@ -8,7 +8,7 @@ use mathlib.Core.Bool.{Bool, true, false}
 use borrow.Author.Tests.{leb-true, leb-false, le-leb, lt-leb}
 use lib.Dec.{leb}
 use lib.ListN.{length, getD, take, drop, length-append, length-drop, take-append-drop}
-use lib.Seq.{take-at, drop-at, drop-cons, drop-drop, getD-drop, length-take-le}
+use lib.Seq.{take-at, drop-at, drop-cons, drop-drop, drop-append-le, take-append-le, getD-drop, length-take-le}
 use Rattle.files_words.specs.Bytes.{numberOf, bytesOf, asBytes, words, wordsFrom, wordAt, Below}
 
 -- ---- Numbers and bytes.
@@ -183,3 +183,19 @@ unfolding wordsFrom
 whole-file file n h e =
     let many : (length file - 0) / 8 ≡ n = omega arith in
     ap (λ (k : ℕ). asBytes (words k file)) many ∙ as-bytes-words n file h e
+
+-- A word of a part of a file is the word that the file has there.
+pub word-in-part : (file : List ℕ) (place size at : ℕ) → at + 8 ≤ size → place + size ≤ length file → wordAt (take size (drop place file)) at ≡ wordAt file (place + at)
+word-in-part file place size at h k =
+    let rest = drop place file in
+    let part = take size rest in
+    let size-of : length part ≡ size = length-take-le size rest (omega (arith, length-drop place file)) in
+    let left : length (drop at part) ≡ size - at = length-drop at part ∙ omega (arith, size-of) in
+    word-whole part at (omega (arith, size-of))
+    ∙ ap numberOf
+    (sym (take-append-le 8 (drop at part) (drop size rest) (omega (arith, left)))
+    ∙ ap (take 8)
+    (sym (drop-append-le at part (drop size rest) (omega (arith, size-of)))
+    ∙ ap (drop at) (take-append-drop size rest)
+    ∙ drop-drop at place file))
+    ∙ sym (word-whole file (place + at) (omega arith))

@@ -1,88 +1,86 @@
--- The word of the rows, then their figures behind it.
-use Prim.Native.Nat.{ℕ, _+_, _*_, _≤_}
-use mathlib.Core.List.{List, [], _∷_}
-use mathlib.Core.Path.{_≡_, refl, sym, ap, _∙_}
+-- The parts of the two files are their rows k.
+use Prim.Native.Nat.{ℕ, _+_, _-_, _*_}
+use mathlib.Core.List.{List}
+use mathlib.Core.Path.{_≡_, ap, _∙_}
 use native.Mathlib.Omega.{arith}
 use borrow.Author.Needs.{needs}
-use lib.ListN.{length, set, length-set}
+use lib.ListN.{take, drop}
 use Rattle.files_words.specs.Bytes.{put}
-use Rattle.files_words.proofs.PutLaws.{put-byte, put-next}
-use Rattle.files_sections.specs.ResultLayout.{rowRefusal, figuresOfRow}
-use Rattle.files_told.specs.declared.told.Rows.{Rows}
-use Rattle.files_told.specs.Told.{rowsOf, rowsWord}
-use Rattle.files_compare.specs.Compare.{field, rowsAt, figuresTold, rowTold, toldWords}
-use Rattle.files_compare.proofs.Steps.{figures-length}
+use Rattle.files_sections.specs.ResultLayout.{rowPlace, rowBytes, figuresOfRow}
+use Rattle.files_told.specs.declared.told.Largest.{Largest}
+use Rattle.files_compare.specs.Compare.{rowTold, largestInRow, rowAt, toldWords}
 use Rattle.files_compare.proofs.compare_row.Statement.{statement}
 use Rattle.files_compare.proofs.compare_row.Tie as tie
 
-module _ (left right : List ℕ) (k : ℕ) where
-  are : {v w : ℕ} → v ≡ field left k rowRefusal → w ≡ field right k rowRefusal → {rows : Rows} → rows ≡ rowsOf v w → rows ≡ rowsAt left right k
-  are ev ew er = er ∙ (λ i. rowsOf (ev i) (ew i))
+part : (file : List ℕ) (k : ℕ) → take (rowPlace k + rowBytes - rowPlace k) (drop (rowPlace k) file) ≡ rowAt file k
+unfolding rowAt
+part file k = let size : rowPlace k + rowBytes - rowPlace k ≡ rowBytes = omega arith in ap (λ (n : ℕ). take n (drop (rowPlace k) file)) size
 
-  told : (run : List ℕ) → toldWords * k + toldWords ≤ length run → {rows : Rows} → rows ≡ rowsAt left right k → {w : ℕ} → w ≡ rowsWord rows →
-      {after : List ℕ} → after ≡ put (set run (toldWords * k) w) (toldWords * k + 1) (figuresTold left right k figuresOfRow) → after ≡ put run (toldWords * k) (rowTold left right k)
-  told run fits {rows} er {w} ew ea =
-      let at = toldWords * k in
-      let figures = figuresTold left right k figuresOfRow in
-      ea
-      ∙ ap (λ (l : List ℕ). put l (at + 1) figures) (put-byte run at w (omega arith))
-      ∙ put-next run (w ∷ []) figures at (at + 1) refl (omega (arith, figures-length left right k figuresOfRow))
-      ∙ ap (λ (n : ℕ). put run at (n ∷ figures)) (ew ∙ ap rowsWord er)
+module _ (left right : List ℕ) (k : ℕ) {l r : List ℕ} (el : l ≡ rowAt left k) (er : r ≡ rowAt right k) where
+  of-rows : (run : List ℕ) {after : List ℕ} → after ≡ put run (toldWords * k) (rowTold l r) → after ≡ put run (toldWords * k) (rowTold (rowAt left k) (rowAt right k))
+  of-rows run e = e ∙ (λ i. put run (toldWords * k) (rowTold (el i) (er i)))
 
-field-at-requires : tie.Need-field-at-requires
-field-at-requires c κs = search needs
+  largest : (known : Largest) {x : Largest} → x ≡ largestInRow l r known k figuresOfRow → x ≡ largestInRow (rowAt left k) (rowAt right k) known k figuresOfRow
+  largest known e = e ∙ (λ i. largestInRow (el i) (er i) known k figuresOfRow)
 
-field-at-requires-2 : tie.Need-field-at-requires-2
-field-at-requires-2 c κs = search needs
+mul-at : tie.Need-mul-at
+mul-at c = search needs
 
-rows-of-requires : tie.Need-rows-of-requires
-rows-of-requires c κs = search needs
+add-at : tie.Need-add-at
+add-at c = search needs
 
-rows-word-requires : tie.Need-rows-word-requires
-rows-word-requires c κs = search needs
+mul-at-2 : tie.Need-mul-at-2
+mul-at-2 c = search needs
 
-mul-run : tie.Need-mul-run
-mul-run c = search needs
+add-end : tie.Need-add-end
+add-end c = search needs
 
-mul-run-2 : tie.Need-mul-run-2
-mul-run-2 c = search needs
+sub-tell-row : tie.Need-sub-tell-row
+sub-tell-row c = search needs
 
-slice-write-run : tie.Need-slice-write-run
-slice-write-run c = search needs
+part-tell-row-start : tie.Need-part-tell-row-start
+part-tell-row-start c = search needs
 
-compare-figures-requires : tie.Need-compare-figures-requires
-compare-figures-requires c κs =
-    let p = c .before .before .before .before .before .before .before .before in
-    let rows = are (p .args .left .now) (p .args .right .now) (p .args .k) (c .before .before .before .before .field-at .ensures) (c .before .before .before .field-at2 .ensures) (c .before .before .rows-of .ensures) in
-    (p .pre .0, simp length-set (p .pre .1), rows)
+part-tell-row-end : tie.Need-part-tell-row-end
+part-tell-row-end c = search needs
+
+sub-tell-row-2 : tie.Need-sub-tell-row-2
+sub-tell-row-2 c = search needs
+
+part-tell-row-start-2 : tie.Need-part-tell-row-start-2
+part-tell-row-start-2 c = search needs
+
+part-tell-row-end-2 : tie.Need-part-tell-row-end-2
+part-tell-row-end-2 c = search needs
+
+tell-row-requires : tie.Need-tell-row-requires
+tell-row-requires c κs = search needs
 
 same-length : tie.Need-same-length
-same-length c =
-    let a = c .before .before .before .before .before .before .before .before .before .before .before .args in
-    c .before .before .compare-figures .kept .1 .1 .1 .1 .0 ∙ length-set (a .run .now) (toldWords * a .k) (c .before .before .before .before .rows-word .result)
+same-length c = search needs
 
 returns : tie.Need-returns
 returns c =
-    let p = c .before .before .before .before .before .before .before .before .before .before .before in
-    let a = p .args in
-    let rows =
-    are (a .left .now) (a .right .now) (a .k) (c .before .before .before .before .before .before .before .field-at .ensures)
-    (c .before .before .before .before .before .before .field-at2 .ensures) (c .before .before .before .before .before .rows-of .ensures)
-    in
-    let figures = c .before .before .compare-figures .ensures in
-    (told (a .left .now) (a .right .now) (a .k) (a .run .now) (p .pre .1) rows (c .before .before .before .before .rows-word .ensures) (figures .0), figures .1)
+    let a = c .before .before .before .before .before .before .before .before .before .args in
+    let e = c .before .before .tell-row .ensures in
+    let el = part (a .left .now) (a .k) in
+    let er = part (a .right .now) (a .k) in
+    (of-rows (a .left .now) (a .right .now) (a .k) el er (a .run .now) (e .0), largest (a .left .now) (a .right .now) (a .k) el er (a .known) (e .1))
 
 pub compare-row-spec : {M : Type 1} → statement M
 compare-row-spec =
     tie.close
     (tie.spec
-    field-at-requires
-    field-at-requires-2
-    rows-of-requires
-    rows-word-requires
-    mul-run
-    mul-run-2
-    slice-write-run
-    compare-figures-requires
+    mul-at
+    add-at
+    mul-at-2
+    add-end
+    sub-tell-row
+    part-tell-row-start
+    part-tell-row-end
+    sub-tell-row-2
+    part-tell-row-start-2
+    part-tell-row-end-2
+    tell-row-requires
     same-length
     returns)

@@ -10,7 +10,7 @@ use Rattle.files_words.proofs.PutLaws.{put-nothing}
 use Rattle.files_sections.specs.ResultLayout.{figuresOfRow}
 use Rattle.files_told.specs.declared.told.Largest.{Largest}
 use Rattle.files_told.specs.declared.told.Largest.the-variants as largest
-use Rattle.files_compare.specs.Compare.{rowTold, rowsTold, largestInRow, largestOf, toldWords}
+use Rattle.files_compare.specs.Compare.{rowTold, rowAt, rowsTold, largestInRow, largestOf, toldWords}
 use Rattle.files_compare.proofs.Steps.{next-row}
 use Rattle.files_compare.proofs.compare_rows.Statement.{statement}
 use Rattle.files_compare.proofs.compare_rows.Tie as tie
@@ -24,14 +24,14 @@ module _ (left right run : List ℕ) where
   start n e = (sym (ap toldTo e ∙ put-nothing run 0 (omega arith)), sym (ap (largestOf left right) e))
 
   next : (count rest k : ℕ) → k ≡ count - rest → 0 < rest → rest ≤ count → toldWords * count ≤ length run →
-      {now : List ℕ} → now ≡ toldTo k → {after : List ℕ} → after ≡ put now (toldWords * k) (rowTold left right k) →
-      {l : Largest} → l ≡ largestOf left right k → {m : Largest} → m ≡ largestInRow left right l k figuresOfRow →
+      {now : List ℕ} → now ≡ toldTo k → {after : List ℕ} → after ≡ put now (toldWords * k) (rowTold (rowAt left k) (rowAt right k)) →
+      {l : Largest} → l ≡ largestOf left right k → {m : Largest} → m ≡ largestInRow (rowAt left k) (rowAt right k) l k figuresOfRow →
       (after ≡ toldTo (count - (rest - 1))) × (m ≡ largestOf left right (count - (rest - 1)))
   unfolding largestOf
   next count rest k ek h l fits en ea el em =
       let e : suc k ≡ count - (rest - 1) = omega arith in (
-        ea ∙ ap (λ (r : List ℕ). put r (toldWords * k) (rowTold left right k)) en ∙ next-row left right run k (omega arith) ∙ ap toldTo e,
-        em ∙ ap (λ (x : Largest). largestInRow left right x k figuresOfRow) el ∙ ap (largestOf left right) e,
+        ea ∙ ap (λ (r : List ℕ). put r (toldWords * k) (rowTold (rowAt left k) (rowAt right k))) en ∙ next-row left right run k (omega arith) ∙ ap toldTo e,
+        em ∙ ap (λ (x : Largest). largestInRow (rowAt left k) (rowAt right k) x k figuresOfRow) el ∙ ap (largestOf left right) e,
       )
 
 abbrev Inv-loop : tie.InvT-loop
@@ -58,7 +58,12 @@ compare-row-requires : tie.Need-compare-row-requires Inv-loop μ-loop
 compare-row-requires c κs =
     let p = c .before .before .before .before .before .before in
     let l = c .before .before .loop in
-    (omega (arith, p .pre .0, c .before .loop-test .taken, l .inv .0), omega (arith, p .pre .1, c .before .loop-test .taken, l .inv .0, l .inv .1))
+    let more = c .before .loop-test .taken in (
+      omega (arith, p .pre .0, more, l .inv .0),
+      omega (arith, p .pre .1, more, l .inv .0, l .inv .1),
+      omega (arith, p .pre .2, more, l .inv .0),
+      omega (arith, p .pre .3, more, l .inv .0),
+    )
 
 sub-rest : tie.Need-sub-rest Inv-loop μ-loop
 sub-rest c = search needs

@@ -8,6 +8,7 @@ use lib.ListN.{length, drop}
 use Rattle.files_words.specs.Bytes.{put}
 use Rattle.files_words.proofs.PutLaws.{put-fits}
 use Rattle.files_sections.specs.declared.checks.Check.the-variants.{Sound}
+use Rattle.files_sections.specs.ResultLayout.{rowPlace}
 use Rattle.files_told.specs.declared.told.Largest.{Largest}
 use Rattle.files_told.specs.declared.told.Side.the-variants as side
 use Rattle.files_told.specs.declared.told.Comparison.{Comparison}
@@ -50,6 +51,10 @@ module _ (left right run : List ℕ) (sound : (resultsCheck left ≡ Sound) × (
 few : (left : List ℕ) → resultsCheck left ≡ Sound → {v : ℕ} → v ≡ rowsIn left → v ≤ mostRows
 few left sound ev = omega (arith, ev, sound-so left sound .few)
 
+-- The rows that a sound file counts are there.
+there : (file : List ℕ) → resultsCheck file ≡ Sound → {v : ℕ} → v ≡ rowsIn file → rowPlace v ≤ length file
+there file sound ev = omega (arith, ev, sound-so file sound .size)
+
 word-at-requires : tie.Need-word-at-requires
 word-at-requires c κs = search needs
 
@@ -74,7 +79,9 @@ returns-2 c =
 compare-rows-requires : tie.Need-compare-rows-requires
 compare-rows-requires c κs =
     let p = c .before .before .before .before .before .before .before .before in
-    (few _ (p .pre .0) (c .before .before .before .before .word-at .ensures), c .before .if2 .left)
+    let left = c .before .before .before .before .word-at .ensures in
+    let right = c .before .before .before .word-at2 .ensures in
+    (few _ (p .pre .0) left, c .before .if2 .left, there _ (p .pre .0) left, there _ (p .pre .1) (c .before .before .if1 .left ∙ right))
 
 same-length : tie.Need-same-length
 same-length c = search needs

@@ -12,56 +12,56 @@ use Rattle.files_told.specs.declared.told.Rows.{Rows}
 use Rattle.files_told.specs.declared.told.Figure.{Figure}
 use Rattle.files_told.specs.declared.told.Largest.{Largest}
 use Rattle.files_told.specs.Told.{figureIn, figureWords, largestWith}
-use Rattle.files_compare.specs.Compare.{field, rowsAt, figureAt, figuresTold, largestInRow, toldWords}
+use Rattle.files_compare.specs.Compare.{wordIn, rowsOn, figureOn, figuresTold, largestInRow, toldWords}
 use Rattle.files_compare.proofs.Steps.{next-figure}
-use Rattle.files_compare.proofs.compare_figures.Statement.{statement}
-use Rattle.files_compare.proofs.compare_figures.Tie as tie
+use Rattle.files_compare.proofs.tell_figures.Statement.{statement}
+use Rattle.files_compare.proofs.tell_figures.Tie as tie
 
-module _ (left right run : List ℕ) (k : ℕ) (known : Largest) where
+module _ (l r run : List ℕ) (k : ℕ) (known : Largest) where
   abbrev at : ℕ
   at = toldWords * k + 1
 
   -- The run and the largest after n figures.
   abbrev toldTo : (n : ℕ) → List ℕ
-  toldTo n = put run at (figuresTold left right k n)
+  toldTo n = put run at (figuresTold l r n)
 
   abbrev largestTo : (n : ℕ) → Largest
-  largestTo n = largestInRow left right known k n
+  largestTo n = largestInRow l r known k n
 
   start : at ≤ length run → (run ≡ toldTo 0) × (known ≡ largestTo 0)
   unfolding figuresTold largestInRow
   start h = (sym (put-nothing run at h), refl)
 
   next : (rest j : ℕ) → j ≡ figuresOfRow - rest → 0 < rest → rest ≤ figuresOfRow → toldWords * k + toldWords ≤ length run →
-      {rows : Rows} → rows ≡ rowsAt left right k →
-      {v w : ℕ} → v ≡ field left k (rowFigures + j) → w ≡ field right k (rowFigures + j) →
+      {rows : Rows} → rows ≡ rowsOn l r →
+      {v w : ℕ} → v ≡ wordIn l (rowFigures + j) → w ≡ wordIn r (rowFigures + j) →
       {f : Figure} → f ≡ figureIn rows v w →
       {now : List ℕ} → now ≡ toldTo j → {after : List ℕ} → after ≡ put now (at + 2 * j) (figureWords f) →
-      {l : Largest} → l ≡ largestTo j → {m : Largest} → m ≡ largestWith l k (rowFigures + j) f →
-      (after ≡ toldTo (figuresOfRow - (rest - 1))) × (m ≡ largestTo (figuresOfRow - (rest - 1)))
+      {x : Largest} → x ≡ largestTo j → {y : Largest} → y ≡ largestWith x k (rowFigures + j) f →
+      (after ≡ toldTo (figuresOfRow - (rest - 1))) × (y ≡ largestTo (figuresOfRow - (rest - 1)))
   unfolding largestInRow
-  next rest j ej h l fits er ev ew ef en ea el em =
+  next rest j ej h few fits er ev ew ef en ea ex ey =
       let e : suc j ≡ figuresOfRow - (rest - 1) = omega arith in
-      let told : _ ≡ figureAt left right k j = ef ∙ (λ i. figureIn (er i) (ev i) (ew i)) in (
-        ea ∙ (λ i. put (en i) (at + 2 * j) (figureWords (told i))) ∙ next-figure left right run at k j (omega arith) ∙ ap toldTo e,
-        em ∙ (λ i. largestWith (el i) k (rowFigures + j) (told i)) ∙ ap largestTo e,
+      let told : _ ≡ figureOn l r j = ef ∙ (λ i. figureIn (er i) (ev i) (ew i)) in (
+        ea ∙ (λ i. put (en i) (at + 2 * j) (figureWords (told i))) ∙ next-figure l r run at j (omega arith) ∙ ap toldTo e,
+        ey ∙ (λ i. largestWith (ex i) k (rowFigures + j) (told i)) ∙ ap largestTo e,
       )
 
 abbrev Inv-loop : tie.InvT-loop
-Inv-loop left right k rows run₀ largest₀ rest₀ run largest rest =
+Inv-loop l r k rows run₀ largest₀ rest₀ run largest rest =
     (rest ≤ figuresOfRow)
     × (length run ≡ length run₀)
-    × (run ≡ toldTo left right run₀ k largest₀ (figuresOfRow - rest))
-    × (largest ≡ largestTo left right run₀ k largest₀ (figuresOfRow - rest))
+    × (run ≡ toldTo l r run₀ k largest₀ (figuresOfRow - rest))
+    × (largest ≡ largestTo l r run₀ k largest₀ (figuresOfRow - rest))
 
 abbrev μ-loop : tie.MeasureT-loop
-μ-loop left right k rows run₀ largest₀ rest₀ run largest rest = rest
+μ-loop l r k rows run₀ largest₀ rest₀ run largest rest = rest
 
 loop-holds : tie.Need-loop-holds Inv-loop μ-loop
 loop-holds c =
     let p = c .before .before .before in
     let a = p .args in
-    let s = start (a .left .now) (a .right .now) (a .run .now) (a .k) (a .known) (omega (arith, p .pre .1)) in
+    let s = start (a .l .now) (a .r .now) (a .run .now) (a .k) (a .known) (omega (arith, p .pre .1)) in
     (omega arith, refl, s .0, s .1)
 
 sub-j : tie.Need-sub-j Inv-loop μ-loop
@@ -70,11 +70,17 @@ sub-j c = search needs
 add-word : tie.Need-add-word Inv-loop μ-loop
 add-word c = search needs
 
-field-at-requires : tie.Need-field-at-requires Inv-loop μ-loop
-field-at-requires c κs = (c .before .before .before .before .before .pre .0, omega arith)
+mul-word-at : tie.Need-mul-word-at Inv-loop μ-loop
+mul-word-at c = search needs
 
-field-at-requires-2 : tie.Need-field-at-requires-2 Inv-loop μ-loop
-field-at-requires-2 c κs = (c .before .before .before .before .before .before .pre .0, omega arith)
+word-at-requires : tie.Need-word-at-requires Inv-loop μ-loop
+word-at-requires c κs = search needs
+
+mul-word-at-2 : tie.Need-mul-word-at-2 Inv-loop μ-loop
+mul-word-at-2 c = search needs
+
+word-at-requires-2 : tie.Need-word-at-requires-2 Inv-loop μ-loop
+word-at-requires-2 c κs = search needs
 
 figure-in-requires : tie.Need-figure-in-requires Inv-loop μ-loop
 figure-in-requires c κs = search needs
@@ -110,14 +116,14 @@ loop-again : tie.Need-loop-again Inv-loop μ-loop
 loop-again c =
     let put = c .before .before .before .put-figure in
     let figure = c .before .before .before .before .before .figure-in in
-    let right = c .before .before .before .before .before .before .field-at2 in
-    let left = c .before .before .before .before .before .before .before .field-at in
+    let right = c .before .before .before .before .before .before .word-at2 in
+    let left = c .before .before .before .before .before .before .before .word-at in
     let more = c .before .before .before .before .before .before .before .before .loop-test .taken in
     let l = c .before .before .before .before .before .before .before .before .before .loop in
     let p = c .before .before .before .before .before .before .before .before .before .before .before .before .before in
     let a = p .args in
     let n =
-    next (a .left .now) (a .right .now) (a .run .now) (a .k) (a .known) (l .rest) _ refl more (l .inv .0) (p .pre .1) (p .pre .2)
+    next (a .l .now) (a .r .now) (a .run .now) (a .k) (a .known) (l .rest) _ refl more (l .inv .0) (p .pre .1) (p .pre .2)
     (left .ensures) (right .ensures) (figure .ensures) (l .inv .2) (put .ensures) (l .inv .3) (c .largest-with .ensures)
     in
     (omega arith, put .kept .0 ∙ l .inv .1, n .0, n .1)
@@ -130,12 +136,12 @@ returns c =
     let a = c .before .before .before .before .before .args in
     let l = c .before .loop in
     let e : figuresOfRow - l .rest ≡ figuresOfRow = omega arith in (
-      l .inv .2 ∙ ap (toldTo (a .left .now) (a .right .now) (a .run .now) (a .k) (a .known)) e,
-      l .inv .3 ∙ ap (largestTo (a .left .now) (a .right .now) (a .run .now) (a .k) (a .known)) e,
+      l .inv .2 ∙ ap (toldTo (a .l .now) (a .r .now) (a .run .now) (a .k) (a .known)) e,
+      l .inv .3 ∙ ap (largestTo (a .l .now) (a .r .now) (a .run .now) (a .k) (a .known)) e,
     )
 
-pub compare-figures-spec : {M : Type 1} → statement M
-compare-figures-spec =
+pub tell-figures-spec : {M : Type 1} → statement M
+tell-figures-spec =
     tie.close
     (tie.spec
     Inv-loop
@@ -143,8 +149,10 @@ compare-figures-spec =
     loop-holds
     sub-j
     add-word
-    field-at-requires
-    field-at-requires-2
+    mul-word-at
+    word-at-requires
+    mul-word-at-2
+    word-at-requires-2
     figure-in-requires
     mul-put-figure
     add-put-figure

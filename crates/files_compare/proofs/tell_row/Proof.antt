@@ -1,0 +1,96 @@
+-- The word of the rows, then their figures behind it.
+use Prim.Native.Nat.{ℕ, _+_, _*_, _≤_}
+use mathlib.Core.List.{List, [], _∷_}
+use mathlib.Core.Path.{_≡_, refl, sym, ap, _∙_}
+use native.Mathlib.Omega.{arith}
+use borrow.Author.Needs.{needs}
+use lib.ListN.{length, set, length-set}
+use Rattle.files_words.specs.Bytes.{put}
+use Rattle.files_words.proofs.PutLaws.{put-byte, put-next}
+use Rattle.files_sections.specs.ResultLayout.{rowRefusal, figuresOfRow}
+use Rattle.files_told.specs.declared.told.Rows.{Rows}
+use Rattle.files_told.specs.Told.{rowsOf, rowsWord}
+use Rattle.files_compare.specs.Compare.{wordIn, rowsOn, figuresTold, rowTold, toldWords}
+use Rattle.files_compare.proofs.Steps.{figures-length}
+use Rattle.files_compare.proofs.tell_row.Statement.{statement}
+use Rattle.files_compare.proofs.tell_row.Tie as tie
+
+module _ (l r : List ℕ) (k : ℕ) where
+  are : {v w : ℕ} → v ≡ wordIn l rowRefusal → w ≡ wordIn r rowRefusal → {rows : Rows} → rows ≡ rowsOf v w → rows ≡ rowsOn l r
+  are ev ew er = er ∙ (λ i. rowsOf (ev i) (ew i))
+
+  told : (run : List ℕ) → toldWords * k + toldWords ≤ length run → {rows : Rows} → rows ≡ rowsOn l r → {w : ℕ} → w ≡ rowsWord rows →
+      {after : List ℕ} → after ≡ put (set run (toldWords * k) w) (toldWords * k + 1) (figuresTold l r figuresOfRow) → after ≡ put run (toldWords * k) (rowTold l r)
+  told run fits {rows} er {w} ew ea =
+      let at = toldWords * k in
+      let figures = figuresTold l r figuresOfRow in
+      ea
+      ∙ ap (λ (l : List ℕ). put l (at + 1) figures) (put-byte run at w (omega arith))
+      ∙ put-next run (w ∷ []) figures at (at + 1) refl (omega (arith, figures-length l r figuresOfRow))
+      ∙ ap (λ (n : ℕ). put run at (n ∷ figures)) (ew ∙ ap rowsWord er)
+
+mul-word-at : tie.Need-mul-word-at
+mul-word-at c = search needs
+
+word-at-requires : tie.Need-word-at-requires
+word-at-requires c κs = search needs
+
+mul-word-at-2 : tie.Need-mul-word-at-2
+mul-word-at-2 c = search needs
+
+word-at-requires-2 : tie.Need-word-at-requires-2
+word-at-requires-2 c κs = search needs
+
+rows-of-requires : tie.Need-rows-of-requires
+rows-of-requires c κs = search needs
+
+rows-word-requires : tie.Need-rows-word-requires
+rows-word-requires c κs = search needs
+
+mul-run : tie.Need-mul-run
+mul-run c = search needs
+
+mul-run-2 : tie.Need-mul-run-2
+mul-run-2 c = search needs
+
+slice-write-run : tie.Need-slice-write-run
+slice-write-run c = search needs
+
+tell-figures-requires : tie.Need-tell-figures-requires
+tell-figures-requires c κs =
+    let p = c .before .before .before .before .before .before .before .before in
+    let rows = are (p .args .l .now) (p .args .r .now) (p .args .k) (c .before .before .before .before .word-at .ensures) (c .before .before .before .word-at2 .ensures) (c .before .before .rows-of .ensures) in
+    (p .pre .0, simp length-set (p .pre .1), rows)
+
+same-length : tie.Need-same-length
+same-length c =
+    let a = c .before .before .before .before .before .before .before .before .before .before .before .args in
+    c .before .before .tell-figures .kept .1 .1 .1 .1 .0 ∙ length-set (a .run .now) (toldWords * a .k) (c .before .before .before .before .rows-word .result)
+
+returns : tie.Need-returns
+returns c =
+    let p = c .before .before .before .before .before .before .before .before .before .before .before in
+    let a = p .args in
+    let rows =
+    are (a .l .now) (a .r .now) (a .k) (c .before .before .before .before .before .before .before .word-at .ensures)
+    (c .before .before .before .before .before .before .word-at2 .ensures) (c .before .before .before .before .before .rows-of .ensures)
+    in
+    let figures = c .before .before .tell-figures .ensures in
+    (told (a .l .now) (a .r .now) (a .k) (a .run .now) (p .pre .1) rows (c .before .before .before .before .rows-word .ensures) (figures .0), figures .1)
+
+pub tell-row-spec : {M : Type 1} → statement M
+tell-row-spec =
+    tie.close
+    (tie.spec
+    mul-word-at
+    word-at-requires
+    mul-word-at-2
+    word-at-requires-2
+    rows-of-requires
+    rows-word-requires
+    mul-run
+    mul-run-2
+    slice-write-run
+    tell-figures-requires
+    same-length
+    returns)
