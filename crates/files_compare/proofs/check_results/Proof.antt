@@ -6,18 +6,6 @@ use Rattle.files_compare.specs.Compare.{resultsCheck}
 use Rattle.files_compare.proofs.check_results.Statement.{statement}
 use Rattle.files_compare.proofs.check_results.Tie as tie
 
-check-edition-requires : tie.Need-check-edition-requires
-check-edition-requires c κs = search needs
-
-cast-check-filled : tie.Need-cast-check-filled
-cast-check-filled c = search needs
-
-check-filled-requires : tie.Need-check-filled-requires
-check-filled-requires c κs = search needs
-
-first-requires : tie.Need-first-requires
-first-requires c κs = search needs
-
 returns : tie.Need-returns
 unfolding resultsCheck
 returns c = c .first .ensures ∙ ap₂ _⟫_ (c .before .before .check-edition .ensures) (c .before .check-filled .ensures)
@@ -26,8 +14,8 @@ pub check-results-spec : {M : Type 1} → statement M
 check-results-spec =
     tie.close
     (tie.spec
-    check-edition-requires
-    cast-check-filled
-    check-filled-requires
-    first-requires
+    (λ c κs. search needs)
+    (λ c. search needs)
+    (λ c κs. search needs)
+    (λ c κs. search needs)
     returns)

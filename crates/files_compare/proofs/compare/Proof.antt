@@ -5,20 +5,8 @@ use Rattle.files_compare.proofs.Orders.{refuses-in-order, keeps-or-tell
 use Rattle.files_compare.proofs.compare.Statement.{statement}
 use Rattle.files_compare.proofs.compare.Tie as tie
 
-check-results-requires : tie.Need-check-results-requires
-check-results-requires c κs = search needs
-
-enum-told : tie.Need-enum-told
-enum-told c = search needs
-
 compare-with-requires : tie.Need-compare-with-requires
 compare-with-requires c κs = sym (c .before .before .before .check-results .ensures) ∙ c .before .enum-told .given .1
-
-enum-known-number : tie.Need-enum-known-number
-enum-known-number c = search needs
-
-same-length : tie.Need-same-length
-same-length c = search needs
 
 returns : tie.Need-returns
 returns c = c .before .before .compare-with .ensures
@@ -34,10 +22,10 @@ pub compare-spec : {M : Type 1} → statement M
 compare-spec =
     tie.close
     (tie.spec
-    check-results-requires
-    enum-told
+    (λ c κs. search needs)
+    (λ c. search needs)
     compare-with-requires
-    enum-known-number
-    same-length
+    (λ c. search needs)
+    (λ c. search needs)
     returns
     returns-2)

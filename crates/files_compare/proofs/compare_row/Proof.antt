@@ -23,42 +23,6 @@ module _ (left right : List ℕ) (k : ℕ) {l r : List ℕ} (el : l ≡ rowAt le
   largest : (known : Largest) {x : Largest} → x ≡ largestInRow l r known k figuresOfRow → x ≡ largestInRow (rowAt left k) (rowAt right k) known k figuresOfRow
   largest known e = e ∙ (λ i. largestInRow (el i) (er i) known k figuresOfRow)
 
-mul-at : tie.Need-mul-at
-mul-at c = search needs
-
-add-at : tie.Need-add-at
-add-at c = search needs
-
-mul-at-2 : tie.Need-mul-at-2
-mul-at-2 c = search needs
-
-add-end : tie.Need-add-end
-add-end c = search needs
-
-sub-tell-row : tie.Need-sub-tell-row
-sub-tell-row c = search needs
-
-part-tell-row-start : tie.Need-part-tell-row-start
-part-tell-row-start c = search needs
-
-part-tell-row-end : tie.Need-part-tell-row-end
-part-tell-row-end c = search needs
-
-sub-tell-row-2 : tie.Need-sub-tell-row-2
-sub-tell-row-2 c = search needs
-
-part-tell-row-start-2 : tie.Need-part-tell-row-start-2
-part-tell-row-start-2 c = search needs
-
-part-tell-row-end-2 : tie.Need-part-tell-row-end-2
-part-tell-row-end-2 c = search needs
-
-tell-row-requires : tie.Need-tell-row-requires
-tell-row-requires c κs = search needs
-
-same-length : tie.Need-same-length
-same-length c = search needs
-
 returns : tie.Need-returns
 returns c =
     let a = c .before .before .before .before .before .before .before .before .before .args in
@@ -71,16 +35,16 @@ pub compare-row-spec : {M : Type 1} → statement M
 compare-row-spec =
     tie.close
     (tie.spec
-    mul-at
-    add-at
-    mul-at-2
-    add-end
-    sub-tell-row
-    part-tell-row-start
-    part-tell-row-end
-    sub-tell-row-2
-    part-tell-row-start-2
-    part-tell-row-end-2
-    tell-row-requires
-    same-length
+    (λ c. search needs)
+    (λ c. search needs)
+    (λ c. search needs)
+    (λ c. search needs)
+    (λ c. search needs)
+    (λ c. search needs)
+    (λ c. search needs)
+    (λ c. search needs)
+    (λ c. search needs)
+    (λ c. search needs)
+    (λ c κs. search needs)
+    (λ c. search needs)
     returns)

@@ -51,9 +51,6 @@ loop-holds c =
     let s = start (a .left .now) (a .right .now) (a .run .now) (a .count - a .count) none in
     (omega arith, refl, s .0, s .1)
 
-sub-compare-row : tie.Need-sub-compare-row Inv-loop μ-loop
-sub-compare-row c = search needs
-
 compare-row-requires : tie.Need-compare-row-requires Inv-loop μ-loop
 compare-row-requires c κs =
     let p = c .before .before .before .before .before .before in
@@ -64,12 +61,6 @@ compare-row-requires c κs =
       omega (arith, p .pre .2, more, l .inv .0),
       omega (arith, p .pre .3, more, l .inv .0),
     )
-
-sub-rest : tie.Need-sub-rest Inv-loop μ-loop
-sub-rest c = search needs
-
-loop-less : tie.Need-loop-less Inv-loop μ-loop
-loop-less c = search needs
 
 loop-again : tie.Need-loop-again Inv-loop μ-loop
 loop-again c =
@@ -102,10 +93,10 @@ compare-rows-spec =
     Inv-loop
     μ-loop
     loop-holds
-    sub-compare-row
+    (λ c. search needs)
     compare-row-requires
-    sub-rest
-    loop-less
+    (λ c. search needs)
+    (λ c. search needs)
     loop-again
     same-length
     returns)

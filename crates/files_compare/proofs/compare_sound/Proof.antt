@@ -55,12 +55,6 @@ few left sound ev = omega (arith, ev, sound-so left sound .few)
 there : (file : List ℕ) → resultsCheck file ≡ Sound → {v : ℕ} → v ≡ rowsIn file → rowPlace v ≤ length file
 there file sound ev = omega (arith, ev, sound-so file sound .size)
 
-word-at-requires : tie.Need-word-at-requires
-word-at-requires c κs = search needs
-
-word-at-requires-2 : tie.Need-word-at-requires-2
-word-at-requires-2 c κs = search needs
-
 returns : tie.Need-returns
 returns c =
     let p = c .before .before .before .before .before .before in
@@ -83,9 +77,6 @@ compare-rows-requires c κs =
     let right = c .before .before .before .word-at2 .ensures in
     (few _ (p .pre .0) left, c .before .if2 .left, there _ (p .pre .0) left, there _ (p .pre .1) (c .before .before .if1 .left ∙ right))
 
-same-length : tie.Need-same-length
-same-length c = search needs
-
 returns-3 : tie.Need-returns-3
 returns-3 c =
     let p = c .before .before .before .before .before .before .before .before .before .before .before in
@@ -98,11 +89,11 @@ pub compare-sound-spec : {M : Type 1} → statement M
 compare-sound-spec =
     tie.close
     (tie.spec
-    word-at-requires
-    word-at-requires-2
+    (λ c κs. search needs)
+    (λ c κs. search needs)
     returns
     mul-words
     returns-2
     compare-rows-requires
-    same-length
+    (λ c. search needs)
     returns-3)

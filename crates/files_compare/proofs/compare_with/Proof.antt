@@ -5,21 +5,9 @@ use Rattle.files_compare.proofs.Orders.{refuses-in-order, keeps-or-tell
 use Rattle.files_compare.proofs.compare_with.Statement.{statement}
 use Rattle.files_compare.proofs.compare_with.Tie as tie
 
-check-results-requires : tie.Need-check-results-requires
-check-results-requires c κs = search needs
-
-enum-told : tie.Need-enum-told
-enum-told c = search needs
-
 compare-sound-requires : tie.Need-compare-sound-requires
 compare-sound-requires c κs =
     (c .before .before .before .before .before .before .before .pre, sym (c .before .before .before .check-results .ensures) ∙ c .before .enum-told .given .1)
-
-enum-known-number : tie.Need-enum-known-number
-enum-known-number c = search needs
-
-same-length : tie.Need-same-length
-same-length c = search needs
 
 returns : tie.Need-returns
 returns c = c .before .before .compare-sound .ensures
@@ -36,10 +24,10 @@ pub compare-with-spec : {M : Type 1} → statement M
 compare-with-spec =
     tie.close
     (tie.spec
-    check-results-requires
-    enum-told
+    (λ c κs. search needs)
+    (λ c. search needs)
     compare-sound-requires
-    enum-known-number
-    same-length
+    (λ c. search needs)
+    (λ c. search needs)
     returns
     returns-2)

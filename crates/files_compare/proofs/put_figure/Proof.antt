@@ -34,32 +34,8 @@ told run at f {ws} h e =
     ∙ stored run at (getD (figureWords f) 0 0) (getD (figureWords f) 1 0) h
     ∙ ap (put run at) (sym (two f))
 
-figure-words-requires : tie.Need-figure-words-requires
-figure-words-requires c κs = search needs
-
-array-read-run : tie.Need-array-read-run
-array-read-run c = search needs
-
-mul-run : tie.Need-mul-run
-mul-run c = search needs
-
-slice-write-run : tie.Need-slice-write-run
-slice-write-run c = search needs
-
-array-read-run-2 : tie.Need-array-read-run-2
-array-read-run-2 c = search needs
-
-add-run : tie.Need-add-run
-add-run c = search needs
-
-mul-run-2 : tie.Need-mul-run-2
-mul-run-2 c = search needs
-
 slice-write-run-2 : tie.Need-slice-write-run-2
 slice-write-run-2 c = simp length-set (omega (arith, c .before .before .pre))
-
-same-length : tie.Need-same-length
-same-length c = search needs
 
 returns : tie.Need-returns
 returns c = told _ _ _ (c .before .before .pre) (c .figure-words .ensures)
@@ -68,13 +44,13 @@ pub put-figure-spec : {M : Type 1} → statement M
 put-figure-spec =
     tie.close
     (tie.spec
-    figure-words-requires
-    array-read-run
-    mul-run
-    slice-write-run
-    array-read-run-2
-    add-run
-    mul-run-2
+    (λ c κs. search needs)
+    (λ c. search needs)
+    (λ c. search needs)
+    (λ c. search needs)
+    (λ c. search needs)
+    (λ c. search needs)
+    (λ c. search needs)
     slice-write-run-2
-    same-length
+    (λ c. search needs)
     returns)

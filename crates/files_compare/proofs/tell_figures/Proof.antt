@@ -64,27 +64,6 @@ loop-holds c =
     let s = start (a .l .now) (a .r .now) (a .run .now) (a .k) (a .known) (omega (arith, p .pre .1)) in
     (omega arith, refl, s .0, s .1)
 
-sub-j : tie.Need-sub-j Inv-loop μ-loop
-sub-j c = search needs
-
-add-word : tie.Need-add-word Inv-loop μ-loop
-add-word c = search needs
-
-mul-word-at : tie.Need-mul-word-at Inv-loop μ-loop
-mul-word-at c = search needs
-
-word-at-requires : tie.Need-word-at-requires Inv-loop μ-loop
-word-at-requires c κs = search needs
-
-mul-word-at-2 : tie.Need-mul-word-at-2 Inv-loop μ-loop
-mul-word-at-2 c = search needs
-
-word-at-requires-2 : tie.Need-word-at-requires-2 Inv-loop μ-loop
-word-at-requires-2 c κs = search needs
-
-figure-in-requires : tie.Need-figure-in-requires Inv-loop μ-loop
-figure-in-requires c κs = search needs
-
 mul-put-figure : tie.Need-mul-put-figure Inv-loop μ-loop
 mul-put-figure c = omega (arith, c .before .before .before .before .before .before .before .before .before .pre .0)
 
@@ -102,15 +81,6 @@ put-figure-requires c κs =
     let p = c .before .before .before .before .before .before .before .before .before in
     let l = c .before .before .before .before .before .loop in
     omega (arith, p .pre .1, l .inv .1, c .before .before .before .before .loop-test .taken)
-
-largest-with-requires : tie.Need-largest-with-requires Inv-loop μ-loop
-largest-with-requires c κs = search needs
-
-sub-rest : tie.Need-sub-rest Inv-loop μ-loop
-sub-rest c = search needs
-
-loop-less : tie.Need-loop-less Inv-loop μ-loop
-loop-less c = search needs
 
 loop-again : tie.Need-loop-again Inv-loop μ-loop
 loop-again c =
@@ -147,21 +117,21 @@ tell-figures-spec =
     Inv-loop
     μ-loop
     loop-holds
-    sub-j
-    add-word
-    mul-word-at
-    word-at-requires
-    mul-word-at-2
-    word-at-requires-2
-    figure-in-requires
+    (λ c. search needs)
+    (λ c. search needs)
+    (λ c. search needs)
+    (λ c κs. search needs)
+    (λ c. search needs)
+    (λ c κs. search needs)
+    (λ c κs. search needs)
     mul-put-figure
     add-put-figure
     mul-put-figure-2
     add-put-figure-2
     put-figure-requires
-    largest-with-requires
-    sub-rest
-    loop-less
+    (λ c κs. search needs)
+    (λ c. search needs)
+    (λ c. search needs)
     loop-again
     same-length
     returns)

@@ -29,33 +29,6 @@ module _ (l r : List ℕ) (k : ℕ) where
       ∙ put-next run (w ∷ []) figures at (at + 1) refl (omega (arith, figures-length l r figuresOfRow))
       ∙ ap (λ (n : ℕ). put run at (n ∷ figures)) (ew ∙ ap rowsWord er)
 
-mul-word-at : tie.Need-mul-word-at
-mul-word-at c = search needs
-
-word-at-requires : tie.Need-word-at-requires
-word-at-requires c κs = search needs
-
-mul-word-at-2 : tie.Need-mul-word-at-2
-mul-word-at-2 c = search needs
-
-word-at-requires-2 : tie.Need-word-at-requires-2
-word-at-requires-2 c κs = search needs
-
-rows-of-requires : tie.Need-rows-of-requires
-rows-of-requires c κs = search needs
-
-rows-word-requires : tie.Need-rows-word-requires
-rows-word-requires c κs = search needs
-
-mul-run : tie.Need-mul-run
-mul-run c = search needs
-
-mul-run-2 : tie.Need-mul-run-2
-mul-run-2 c = search needs
-
-slice-write-run : tie.Need-slice-write-run
-slice-write-run c = search needs
-
 tell-figures-requires : tie.Need-tell-figures-requires
 tell-figures-requires c κs =
     let p = c .before .before .before .before .before .before .before .before in
@@ -82,15 +55,15 @@ pub tell-row-spec : {M : Type 1} → statement M
 tell-row-spec =
     tie.close
     (tie.spec
-    mul-word-at
-    word-at-requires
-    mul-word-at-2
-    word-at-requires-2
-    rows-of-requires
-    rows-word-requires
-    mul-run
-    mul-run-2
-    slice-write-run
+    (λ c. search needs)
+    (λ c κs. search needs)
+    (λ c. search needs)
+    (λ c κs. search needs)
+    (λ c κs. search needs)
+    (λ c κs. search needs)
+    (λ c. search needs)
+    (λ c. search needs)
+    (λ c. search needs)
     tell-figures-requires
     same-length
     returns)

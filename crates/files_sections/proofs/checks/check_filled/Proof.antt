@@ -10,22 +10,10 @@ use Rattle.files_sections.proofs.CountedLaws.{few-words, filled-is}
 use Rattle.files_sections.proofs.checks.check_filled.Statement.{statement}
 use Rattle.files_sections.proofs.checks.check_filled.Tie as tie
 
-check-count-requires : tie.Need-check-count-requires
-check-count-requires c κs = search needs
-
-enum-told : tie.Need-enum-told
-enum-told c = search needs
-
-enum-told-2 : tie.Need-enum-told-2
-enum-told-2 c = search needs
-
 returns : tie.Need-returns
 returns c =
     let a = c .before .before .before .before .args in
     stops _ _ _ (c .before .before .check-count .ensures) (c .enum-told2 .given .1) ∙ sym (filled-is (a .file .now) (a .place) (a .limit) (a .width))
-
-word-at-requires : tie.Need-word-at-requires
-word-at-requires c κs = search needs
 
 -- the count word is whole, and the words are few
 counted : (c : tie.After-word-at) →
@@ -57,11 +45,11 @@ pub check-filled-spec : {M : Type 1} → statement M
 check-filled-spec =
     tie.close
     (tie.spec
-    check-count-requires
-    enum-told
-    enum-told-2
+    (λ c κs. search needs)
+    (λ c. search needs)
+    (λ c. search needs)
     returns
-    word-at-requires
+    (λ c κs. search needs)
     mul-words
     add-check-rest
     check-rest-requires

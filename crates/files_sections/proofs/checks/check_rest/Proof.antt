@@ -31,29 +31,21 @@ module _ (file : List ℕ) (place count : ℕ) where
   all-there : count ≤ whole → {r : Check} → r ≡ endCheck file (place + 8 * count) → r ≡ restCheck file place count
   all-there h e = e ∙ sym (ap (λ (k : Check). k ⟫ endCheck file (place + 8 * count)) (walk-any place [] count there (omega (arith, length-words-from file place))))
 
-sub-whole : tie.Need-sub-whole
-sub-whole c = search needs
-
-mul-t9 : tie.Need-mul-t9
-mul-t9 c = search needs
-
-add-t10 : tie.Need-add-t10
-add-t10 c = search needs
-
 returns : tie.Need-returns
 returns c = missing _ _ _ (c .if1 .taken)
-
-mul-end : tie.Need-mul-end
-mul-end c = search needs
-
-add-end : tie.Need-add-end
-add-end c = search needs
-
-need-requires : tie.Need-need-requires
-need-requires c κs = search needs
 
 returns-2 : tie.Need-returns-2
 returns-2 c = all-there _ _ _ (c .before .if1 .left) (c .need .ensures)
 
 pub check-rest-spec : {M : Type 1} → statement M
-check-rest-spec = tie.close (tie.spec sub-whole mul-t9 add-t10 returns mul-end add-end need-requires returns-2)
+check-rest-spec =
+    tie.close
+    (tie.spec
+    (λ c. search needs)
+    (λ c. search needs)
+    (λ c. search needs)
+    returns
+    (λ c. search needs)
+    (λ c. search needs)
+    (λ c κs. search needs)
+    returns-2)

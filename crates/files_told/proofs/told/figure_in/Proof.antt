@@ -4,24 +4,6 @@ use borrow.Author.Needs.{needs}
 use Rattle.files_told.proofs.told.figure_in.Statement.{statement}
 use Rattle.files_told.proofs.told.figure_in.Tie as tie
 
-enum-told : tie.Need-enum-told
-enum-told c = search needs
-
-figure-of-requires : tie.Need-figure-of-requires
-figure-of-requires c κs = search needs
-
-enum-told-2 : tie.Need-enum-told-2
-enum-told-2 c = search needs
-
-enum-told-3 : tie.Need-enum-told-3
-enum-told-3 c = search needs
-
-enum-told-4 : tie.Need-enum-told-4
-enum-told-4 c = search needs
-
-enum-told-5 : tie.Need-enum-told-5
-enum-told-5 c = search needs
-
 returns : tie.Need-returns
 unfolding figureIn
 returns c = rw (c .before .enum-told .given .1) (c .figure-of .ensures)
@@ -46,12 +28,12 @@ pub figure-in-spec : {M : Type 1} → statement M
 figure-in-spec =
     tie.close
     (tie.spec
-    enum-told
-    figure-of-requires
-    enum-told-2
-    enum-told-3
-    enum-told-4
-    enum-told-5
+    (λ c. search needs)
+    (λ c κs. search needs)
+    (λ c. search needs)
+    (λ c. search needs)
+    (λ c. search needs)
+    (λ c. search needs)
     returns
     returns-2
     returns-3

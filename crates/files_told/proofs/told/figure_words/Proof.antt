@@ -4,18 +4,6 @@ use borrow.Author.Needs.{needs}
 use Rattle.files_told.proofs.told.figure_words.Statement.{statement}
 use Rattle.files_told.proofs.told.figure_words.Tie as tie
 
-enum-known-figure : tie.Need-enum-known-figure
-enum-known-figure c = search needs
-
-enum-told : tie.Need-enum-told
-enum-told c = search needs
-
-enum-told-2 : tie.Need-enum-told-2
-enum-told-2 c = search needs
-
-enum-told-3 : tie.Need-enum-told-3
-enum-told-3 c = search needs
-
 returns : tie.Need-returns
 unfolding figureWords
 returns c = simp (c .before .figure .given .1)
@@ -36,10 +24,10 @@ pub figure-words-spec : {M : Type 1} → statement M
 figure-words-spec =
     tie.close
     (tie.spec
-    enum-known-figure
-    enum-told
-    enum-told-2
-    enum-told-3
+    (λ c. search needs)
+    (λ c. search needs)
+    (λ c. search needs)
+    (λ c. search needs)
     returns
     returns-2
     returns-3

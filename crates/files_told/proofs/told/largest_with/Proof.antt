@@ -4,21 +4,6 @@ use Rattle.files_told.specs.Told.{largestWith}
 use Rattle.files_told.proofs.told.largest_with.Statement.{statement}
 use Rattle.files_told.proofs.told.largest_with.Tie as tie
 
-enum-known-figure : tie.Need-enum-known-figure
-enum-known-figure c = search needs
-
-unless-smaller-requires : tie.Need-unless-smaller-requires
-unless-smaller-requires c κs = search needs
-
-enum-told : tie.Need-enum-told
-enum-told c = search needs
-
-enum-told-2 : tie.Need-enum-told-2
-enum-told-2 c = search needs
-
-enum-told-3 : tie.Need-enum-told-3
-enum-told-3 c = search needs
-
 returns : tie.Need-returns
 unfolding largestWith
 returns c = rw (c .before .before .figure .given .1) (c .unless-smaller .ensures)
@@ -39,11 +24,11 @@ pub largest-with-spec : {M : Type 1} → statement M
 largest-with-spec =
     tie.close
     (tie.spec
-    enum-known-figure
-    unless-smaller-requires
-    enum-told
-    enum-told-2
-    enum-told-3
+    (λ c. search needs)
+    (λ c κs. search needs)
+    (λ c. search needs)
+    (λ c. search needs)
+    (λ c. search needs)
     returns
     returns-2
     returns-3

@@ -10,18 +10,6 @@ use Rattle.files_told.proofs.told.words_of.Tie as tie
 refused : (number place : ℕ) {v w : ℕ} → v ≡ w → number ∷ v ∷ place ∷ 0 ∷ 0 ∷ 0 ∷ 0 ∷ [] ≡ number ∷ w ∷ place ∷ 0 ∷ 0 ∷ 0 ∷ 0 ∷ []
 refused number place e = ap (λ (k : ℕ). number ∷ k ∷ place ∷ 0 ∷ 0 ∷ 0 ∷ 0 ∷ []) e
 
-enum-known-comparison : tie.Need-enum-known-comparison
-enum-known-comparison c = search needs
-
-compared-words-requires : tie.Need-compared-words-requires
-compared-words-requires c κs = search needs
-
-enum-known-comparison-2 : tie.Need-enum-known-comparison-2
-enum-known-comparison-2 c = search needs
-
-side-word-requires : tie.Need-side-word-requires
-side-word-requires c κs = search needs
-
 returns : tie.Need-returns
 unfolding comparisonWords
 returns c = rw (c .before .before .comparison .given .1) (c .compared-words .ensures)
@@ -34,9 +22,9 @@ pub words-of-spec : {M : Type 1} → statement M
 words-of-spec =
     tie.close
     (tie.spec
-    enum-known-comparison
-    compared-words-requires
-    enum-known-comparison-2
-    side-word-requires
+    (λ c. search needs)
+    (λ c κs. search needs)
+    (λ c. search needs)
+    (λ c κs. search needs)
     returns
     returns-2)
