@@ -240,7 +240,7 @@ enum {
     KELUBASHI_COMPARE_SIDE = 1,     /* with 21, 22, 23 and 25 the file at fault: 0 left, 1 right; else 0 */
     KELUBASHI_COMPARE_PLACE = 2,    /* with these the byte at fault, with 26 the words needed; else 0 */
     KELUBASHI_COMPARE_ROWS = 3,     /* rows of each file */
-    KELUBASHI_COMPARE_ROW = 4,      /* row of the first largest distance, from 0; the rows where none is */
+    KELUBASHI_COMPARE_ROW = 4,      /* row of the first largest distance, from 0; the count of rows where none is */
     KELUBASHI_COMPARE_WORD = 5,     /* its word in that row, KELUBASHI_X and on; 11 where none is */
     KELUBASHI_COMPARE_DISTANCE = 6, /* that distance, in last places; 0 where none is */
 
@@ -408,7 +408,7 @@ uint64_t kelubashi1_check(const uint8_t *file, size_t length, uint64_t *verdicts
 **     left_length    their count
 **     right          the bytes of the other
 **     right_length   their count
-**     k              the count of rows, in words: KELUBASHI_COMPARED for each row; KELUBASHI_MOST_COMPARED are
+**     k              the words of rows: KELUBASHI_COMPARED for each row; KELUBASHI_MOST_COMPARED are
 **                    always enough
 **     n              the count of answer: 7, KELUBASHI_COMPARE_ANSWER
 **

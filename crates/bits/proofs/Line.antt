@@ -20,16 +20,16 @@ use Rattle.bits.proofs.Units.{grows, step, small}
 use Rattle.bits.proofs.Doubles.{by-field}
 
 -- ---- Places and words, on either side of the middle.
-line-clear : (w : ℕ) → w < minusZero → lineOf w ≡ minusZero + w
+pub line-clear : (w : ℕ) → w < minusZero → lineOf w ≡ minusZero + w
 line-clear w h = ap (λ (b : Bool). pick b (minusZero + w) (2 ^ 64 - w)) (lt-ltb w minusZero h)
 
-line-set : (w : ℕ) → minusZero ≤ w → lineOf w ≡ 2 ^ 64 - w
+pub line-set : (w : ℕ) → minusZero ≤ w → lineOf w ≡ 2 ^ 64 - w
 line-set w h = ap (λ (b : Bool). pick b (minusZero + w) (2 ^ 64 - w)) (le-ltb w minusZero h)
 
-word-left : (p : ℕ) → p < minusZero → wordOn p ≡ minusZero + (minusZero - p) % minusZero
+pub word-left : (p : ℕ) → p < minusZero → wordOn p ≡ minusZero + (minusZero - p) % minusZero
 word-left p h = ap (λ (b : Bool). pick b (minusZero + (minusZero - p) % minusZero) (p - minusZero)) (lt-ltb p minusZero h)
 
-word-right : (p : ℕ) → minusZero ≤ p → wordOn p ≡ p - minusZero
+pub word-right : (p : ℕ) → minusZero ≤ p → wordOn p ≡ p - minusZero
 word-right p h = ap (λ (b : Bool). pick b (minusZero + (minusZero - p) % minusZero) (p - minusZero)) (le-ltb p minusZero h)
 
 -- Every place is below 2 ^ 64, and above 0 where the word is one of 64 bits.

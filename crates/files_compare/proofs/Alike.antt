@@ -11,26 +11,25 @@ use lib.Ieee.{binary64, ofBits}
 use Rattle.bits.specs.Choice.{pick}
 use Rattle.bits.specs.Arithmetic.{isFinite}
 use Rattle.files_sections.specs.ResultLayout.{rowRefusal, rowFigures, figuresOfRow}
-use Rattle.files_told.specs.declared.told.Rows.{Rows}
-use Rattle.files_told.specs.declared.told.Rows.the-variants as rows
-use Rattle.files_told.specs.declared.told.Figure.{Figure}
+use Rattle.files_told.specs.declared.told.RowKind.{RowKind}
+use Rattle.files_told.specs.declared.told.RowKind.the-variants as kind
 use Rattle.files_told.specs.declared.told.Figure.the-variants as figure
 use Rattle.files_told.specs.declared.told.Largest.{Largest}
 use Rattle.files_told.specs.Distance.{distanceOf}
-use Rattle.files_told.specs.Told.{rowsOf, bothFinite, figureOf, figureIn, largestWith}
-use Rattle.files_compare.specs.Compare.{wordIn, rowAt, rowsAt, figureAt, largestInRow, largestOf}
+use Rattle.files_told.specs.Told.{rowKindOf, bothFinite, figureOf, figureIn, largestWith}
+use Rattle.files_compare.specs.Compare.{wordIn, rowAt, kindAt, figureAt, largestInRow, largestOf}
 use Rattle.files_compare.specs.ComparePromise.{Unmoved, NothingMoved, exchanged, SidesExchanged}
 use Rattle.files_told.proofs.DistanceLaws.{symmetric}
 
 -- ---- A file beside itself.
-abbrev answer : (b c : Bool) → Rows
-answer b c = pick b (pick b rows.Answered rows.RightRefused) (pick b rows.LeftRefused (pick c rows.RefusedAlike rows.RefusedUnlike))
+abbrev answer : (b c : Bool) → RowKind
+answer b c = pick b (pick b kind.Answered kind.RightRefused) (pick b kind.LeftRefused (pick c kind.RefusedAlike kind.RefusedUnlike))
 
-same-rows : (w : ℕ) → (rowsOf w w ≡ rows.Answered) ⊎ (rowsOf w w ≡ rows.RefusedAlike)
-unfolding rowsOf
+same-rows : (w : ℕ) → (rowKindOf w w ≡ kind.Answered) ⊎ (rowKindOf w w ≡ kind.RefusedAlike)
+unfolding rowKindOf
 same-rows w = by (eqb w 0) refl
   where
-    by : (b : Bool) → eqb w 0 ≡ b → (answer (eqb w 0) (eqb w w) ≡ rows.Answered) ⊎ (answer (eqb w 0) (eqb w w) ≡ rows.RefusedAlike)
+    by : (b : Bool) → eqb w 0 ≡ b → (answer (eqb w 0) (eqb w w) ≡ kind.Answered) ⊎ (answer (eqb w 0) (eqb w w) ≡ kind.RefusedAlike)
     by true e = inl (ap (λ (b : Bool). answer b (eqb w w)) e)
     by false e = inr (ap₂ answer e (eq-eqb w w refl))
 
@@ -45,18 +44,18 @@ same-figure w = by (bothFinite w w)
     by true = inl (ap (λ (d : ℕ). figure.Distance d) none)
     by false = inr (inl (ap (λ (b : Bool). pick b figure.EqualBits figure.UnequalBits) (eq-eqb w w refl)))
 
-in-same : (r : Rows) (w : ℕ) → Unmoved (figureIn r w w)
+in-same : (r : RowKind) (w : ℕ) → Unmoved (figureIn r w w)
 unfolding figureIn
-in-same rows.Answered w = same-figure w
-in-same rows.LeftRefused w = inr (inr refl)
-in-same rows.RightRefused w = inr (inr refl)
-in-same rows.RefusedAlike w = inr (inr refl)
-in-same rows.RefusedUnlike w = inr (inr refl)
+in-same kind.Answered w = same-figure w
+in-same kind.LeftRefused w = inr (inr refl)
+in-same kind.RightRefused w = inr (inr refl)
+in-same kind.RefusedAlike w = inr (inr refl)
+in-same kind.RefusedUnlike w = inr (inr refl)
 
 pub nothing-moved : NothingMoved
 nothing-moved file k n = record {
   same-rows = same-rows (wordIn (rowAt file k) rowRefusal);
-  same-figure = in-same (rowsAt file file k) (wordIn (rowAt file k) (rowFigures + n));
+  same-figure = in-same (kindAt file file k) (wordIn (rowAt file k) (rowFigures + n));
 }
 
 -- ---- Two files either way round.
@@ -67,15 +66,15 @@ eqb-sym v w = by (eqb w v) refl
     by true e = eq-eqb v w (sym (eqb-true w v e)) ∙ sym e
     by false e = ne-eqb v w (λ q. eqb-false w v e (sym q)) ∙ sym e
 
-rows-exchanged : (v w : ℕ) → rowsOf w v ≡ exchanged (rowsOf v w)
-unfolding rowsOf
+rows-exchanged : (v w : ℕ) → rowKindOf w v ≡ exchanged (rowKindOf v w)
+unfolding rowKindOf
 rows-exchanged v w =
-    ap (λ (c : Bool). pick (eqb w 0) (pick (eqb v 0) rows.Answered rows.RightRefused) (pick (eqb v 0) rows.LeftRefused (pick c rows.RefusedAlike rows.RefusedUnlike))) (eqb-sym w v)
+    ap (λ (c : Bool). pick (eqb w 0) (pick (eqb v 0) kind.Answered kind.RightRefused) (pick (eqb v 0) kind.LeftRefused (pick c kind.RefusedAlike kind.RefusedUnlike))) (eqb-sym w v)
     ∙ by (eqb v 0) (eqb w 0) (eqb v w)
   where
     by : (a b c : Bool) →
-        pick b (pick a rows.Answered rows.RightRefused) (pick a rows.LeftRefused (pick c rows.RefusedAlike rows.RefusedUnlike))
-        ≡ exchanged (pick a (pick b rows.Answered rows.RightRefused) (pick b rows.LeftRefused (pick c rows.RefusedAlike rows.RefusedUnlike)))
+        pick b (pick a kind.Answered kind.RightRefused) (pick a kind.LeftRefused (pick c kind.RefusedAlike kind.RefusedUnlike))
+        ≡ exchanged (pick a (pick b kind.Answered kind.RightRefused) (pick b kind.LeftRefused (pick c kind.RefusedAlike kind.RefusedUnlike)))
     by true true c = refl
     by true false c = refl
     by false true c = refl
@@ -93,19 +92,19 @@ unfolding figureOf
 figure-exchanged v w =
     λ i. pick (and-sym (isFinite (ofBits binary64 w)) (isFinite (ofBits binary64 v)) i) (figure.Distance (symmetric w v i)) (pick (eqb-sym w v i) figure.EqualBits figure.UnequalBits)
 
-in-exchanged : (r : Rows) (v w : ℕ) → figureIn (exchanged r) w v ≡ figureIn r v w
+in-exchanged : (r : RowKind) (v w : ℕ) → figureIn (exchanged r) w v ≡ figureIn r v w
 unfolding figureIn
-in-exchanged rows.Answered v w = figure-exchanged v w
-in-exchanged rows.LeftRefused v w = refl
-in-exchanged rows.RightRefused v w = refl
-in-exchanged rows.RefusedAlike v w = refl
-in-exchanged rows.RefusedUnlike v w = refl
+in-exchanged kind.Answered v w = figure-exchanged v w
+in-exchanged kind.LeftRefused v w = refl
+in-exchanged kind.RightRefused v w = refl
+in-exchanged kind.RefusedAlike v w = refl
+in-exchanged kind.RefusedUnlike v w = refl
 
 module _ (left right : List ℕ) where
   figures : (k n : ℕ) → figureAt right left k n ≡ figureAt left right k n
   figures k n =
-      ap (λ (r : Rows). figureIn r (wordIn (rowAt right k) (rowFigures + n)) (wordIn (rowAt left k) (rowFigures + n))) (rows-exchanged (wordIn (rowAt left k) rowRefusal) (wordIn (rowAt right k) rowRefusal))
-      ∙ in-exchanged (rowsAt left right k) (wordIn (rowAt left k) (rowFigures + n)) (wordIn (rowAt right k) (rowFigures + n))
+      ap (λ (r : RowKind). figureIn r (wordIn (rowAt right k) (rowFigures + n)) (wordIn (rowAt left k) (rowFigures + n))) (rows-exchanged (wordIn (rowAt left k) rowRefusal) (wordIn (rowAt right k) rowRefusal))
+      ∙ in-exchanged (kindAt left right k) (wordIn (rowAt left k) (rowFigures + n)) (wordIn (rowAt right k) (rowFigures + n))
 
   in-row : (k n : ℕ) (l : Largest) → largestInRow (rowAt right k) (rowAt left k) l k n ≡ largestInRow (rowAt left k) (rowAt right k) l k n
   unfolding largestInRow
@@ -118,8 +117,8 @@ module _ (left right : List ℕ) where
   largest (suc n) = ap (λ (l : Largest). largestInRow (rowAt right n) (rowAt left n) l n figuresOfRow) (largest n) ∙ in-row n figuresOfRow (largestOf left right n)
 
 pub sides-exchanged : SidesExchanged
-sides-exchanged left right k = record {
-  its-rows = rows-exchanged (wordIn (rowAt left k) rowRefusal) (wordIn (rowAt right k) rowRefusal);
-  its-figures = figures left right k;
-  its-largest = largest left right k;
+sides-exchanged left right = record {
+  its-kinds = λ k. rows-exchanged (wordIn (rowAt left k) rowRefusal) (wordIn (rowAt right k) rowRefusal);
+  its-figures = figures left right;
+  its-largest = largest left right;
 }

@@ -1,6 +1,6 @@
 -- The first largest distance: what holds of it after so many figures, and with one more.
 use Prim.Native.Nat.{ℕ, zero, suc, _+_, _≤_, _<_}
-use mathlib.Core.Path.{_≡_, refl, sym, ap, subst, _∙_}
+use mathlib.Core.Path.{_≡_, refl, sym, _∙_}
 use mathlib.Core.Bool.{Bool, true, false}
 use mathlib.Core.Logic.{_⊎_, inl, inr}
 use mathlib.Core.List.{List}
@@ -13,9 +13,9 @@ use Rattle.files_told.specs.declared.told.Figure.{Figure}
 use Rattle.files_told.specs.declared.told.Figure.the-variants as figure
 use Rattle.files_told.specs.declared.told.Largest.{Largest}
 use Rattle.files_told.specs.declared.told.Largest.the-variants as largest
-use Rattle.files_told.specs.Told.{unlessSmaller, largestWith}
+use Rattle.files_told.specs.Told.{firstLarger, largestWith}
 use Rattle.files_compare.specs.Compare.{figureAt, rowAt, largestInRow, largestOf}
-use Rattle.files_compare.specs.ComparePromise.{Earlier, IsFirst, FirstLargest, LargestIsFirst}
+use Rattle.files_compare.specs.ComparePromise.{Earlier, FirstLargest, LargestIsFirst}
 
 -- ---- Figures in their order.
 in-front : (k j row n : ℕ) → Earlier k j row n → Earlier k j row (suc n)
@@ -147,7 +147,7 @@ module _ (left right : List ℕ) where
         by-size true e = as-larger (ltb-true most d e)
         by-size false e = as-before (ltb-false most d e)
 
-      with-distance : (l : Largest) → FirstLargest left right row n l → FirstLargest left right row (suc n) (unlessSmaller l row (rowFigures + n) d)
+      with-distance : (l : Largest) → FirstLargest left right row n l → FirstLargest left right row (suc n) (firstLarger l row (rowFigures + n) d)
       with-distance largest.Nowhere f = as-first f
       with-distance (largest.At r word most) f = by-size r word most f (ltb most d) refl
 

@@ -1,24 +1,21 @@
 -- The order of refusals, and what the lent run holds after each.
-use Prim.Native.Nat.{ℕ, _*_, _≤_, _<_}
+use Prim.Native.Nat.{ℕ}
 use mathlib.Core.Path.{_≡_, refl, ap}
 use mathlib.Core.Bool.{Bool}
-use mathlib.Core.List.{List, [], _∷_, _++_}
+use mathlib.Core.List.{List, _++_}
 use native.Mathlib.Omega.{arith}
 use borrow.Author.Tests.{le-leb, lt-leb, eq-eqb, ne-eqb}
 use lib.Dec.{eqb, leb}
-use lib.ListN.{length, drop}
+use lib.ListN.{drop}
 use Rattle.files_sections.specs.declared.checks.Check.{Check}
-use Rattle.files_sections.specs.declared.checks.Check.the-variants.{Sound, Fault}
 use Rattle.files_sections.specs.Checks.{need, editionCheck}
 use Rattle.files_sections.specs.ResultLayout.{resultEdition, rowWords, countPlace}
 use Rattle.files_sections.proofs.CheckLaws.{both}
 use Rattle.files_sections.proofs.CountedLaws.{filled-sound, edition-is}
-use Rattle.files_told.specs.declared.told.Side.{Side}
 use Rattle.files_told.specs.declared.told.Side.the-variants as side
-use Rattle.files_told.specs.declared.told.Largest.{Largest}
 use Rattle.files_told.specs.declared.told.Comparison.{Comparison}
 use Rattle.files_told.specs.declared.told.Comparison.the-variants as comparison
-use Rattle.files_compare.specs.Compare.{mostRows, resultsCheck, rowsIn, rowsTold, largestOf, toldWords, unlessRefused, comparisonOf, unlessCompared, runAfter}
+use Rattle.files_compare.specs.Compare.{mostRows, resultsCheck, rowCount, rowsTold, largestOf, wordsNeeded, unlessRefused, comparisonOf, unlessCompared, runAfter}
 use Rattle.files_compare.specs.ComparePromise.{SoundSo, RefusesInOrder, KeepsOrTells}
 
 pub sound-so : SoundSo
@@ -34,10 +31,7 @@ sound-so file e =
 
 module _ (left right : List ℕ) (room : ℕ) where
   abbrev count : ℕ
-  count = rowsIn left
-
-  abbrev wanted : ℕ
-  wanted = toldWords * count
+  count = rowCount left
 
   -- The answer, by what each test came to.
   abbrev by-tests : Check → Check → (same enough : Bool) → Comparison
@@ -45,28 +39,28 @@ module _ (left right : List ℕ) (room : ℕ) where
       unlessRefused side.Left l
       (unlessRefused side.Right r
       (unlessRefused side.Neither (need same 51 0)
-      (unlessRefused side.Neither (need enough 26 wanted)
+      (unlessRefused side.Neither (need enough 26 (wordsNeeded left))
       (comparison.Compared count (largestOf left right count)))))
 
-  by : {l r : Check} {same enough : Bool} → resultsCheck left ≡ l → resultsCheck right ≡ r → eqb count (rowsIn right) ≡ same → leb wanted room ≡ enough → comparisonOf left right room ≡ by-tests l r same enough
+  by : {l r : Check} {same enough : Bool} → resultsCheck left ≡ l → resultsCheck right ≡ r → eqb count (rowCount right) ≡ same → leb (wordsNeeded left) room ≡ enough → comparisonOf left right room ≡ by-tests l r same enough
   unfolding comparisonOf
   by el er es ee = λ i. by-tests (el i) (er i) (es i) (ee i)
 
 pub refuses-in-order : RefusesInOrder
 refuses-in-order left right room =
-    let c = rowsIn left in
+    let c = rowCount left in
     record {
       left-first = λ number place el. by left right room el refl refl refl;
       then-right = λ el number place er. by left right room el er refl refl;
-      then-51 = λ el er h. by left right room el er (ne-eqb c (rowsIn right) h) refl;
-      then-26 = λ el er h s. by left right room el er (eq-eqb c (rowsIn right) h) (lt-leb (toldWords * c) room s);
-      else-compared = λ el er h s. by left right room el er (eq-eqb c (rowsIn right) h) (le-leb (toldWords * c) room s);
+      then-51 = λ el er h. by left right room el er (ne-eqb c (rowCount right) h) refl;
+      then-26 = λ el er h s. by left right room el er (eq-eqb c (rowCount right) h) (lt-leb (wordsNeeded left) room s);
+      else-compared = λ el er h s. by left right room el er (eq-eqb c (rowCount right) h) (le-leb (wordsNeeded left) room s);
     }
 
 pub keeps-or-tells : KeepsOrTells
 unfolding runAfter
 keeps-or-tells left right run =
-    let told = rowsTold left right (rowsIn left) ++ drop (toldWords * rowsIn left) run in
+    let told = rowsTold left right (rowCount left) ++ drop (wordsNeeded left) run in
     record {
       kept = λ number place s e. ap (λ (c : Comparison). unlessCompared c run told) e;
       told = λ n l e. ap (λ (c : Comparison). unlessCompared c run told) e;

@@ -4,8 +4,8 @@ use mathlib.Core.Path.{_≡_, refl, sym, ap, ap₂, _∙_}
 use mathlib.Core.List.{List, [], _∷_, _++_, append-assoc, append-nil}
 use native.Mathlib.Nat.{add-zero}
 use native.Mathlib.Omega.{arith}
-use lib.ListN.{length, length-append, drop, getD}
-use lib.Seq.{drop-at, getD-at}
+use lib.ListN.{length, length-append, drop, getD, List·getD-append}
+use lib.Seq.{drop-at}
 use Rattle.files_words.specs.Bytes.{words, wordsFrom, wordAt, asBytes, Below}
 use Rattle.files_words.proofs.WordLaws.{length-as-bytes, as-bytes-append, words-as-bytes, word-whole, word-in-part, words-later, word-of-words, length-words-from, below-append}
 use Rattle.files_sections.specs.declared.checks.Check.the-variants.{Sound, Fault}
@@ -13,11 +13,11 @@ use Rattle.files_sections.specs.Checks.{_⟫_, editionCheck, filledCheck}
 use Rattle.files_sections.specs.ResultLayout.{resultEdition, rowWords, rowBytes, countPlace, rowPlace, rowRefusal, rowFigures, figuresOfRow}
 use Rattle.files_sections.proofs.CheckLaws.{sound-both}
 use Rattle.files_sections.proofs.CountedLaws.{sound-filled, left-behind, sound-edition}
-use Rattle.files_told.specs.declared.told.Rows.{Rows}
+use Rattle.files_told.specs.declared.told.RowKind.{RowKind}
 use Rattle.files_told.specs.declared.told.Comparison.the-variants as comparison
-use Rattle.files_told.specs.Told.{rowsOf, rowsWord, figureIn, figureWords}
-use Rattle.files_compare.specs.Compare.{mostRows, resultsCheck, rowsIn, wordIn, rowsOn, figureOn, figuresTold, rowTold, rowAt, rowsTold, largestOf, toldWords}
-use Rattle.files_compare.specs.ComparePromise.{RefusedFileIs25, Row, wordsIn, IsRow, AreRows, allWords, fileOf, figuresBetween, between, allBetween, ComparesRows}
+use Rattle.files_told.specs.Told.{rowKindOf, rowKindWord, figureIn, figureWords}
+use Rattle.files_compare.specs.Compare.{mostRows, resultsCheck, rowCount, wordIn, kindOn, figureOn, figuresTold, rowTold, rowAt, rowsTold, largestOf, toldWords}
+use Rattle.files_compare.specs.ComparePromise.{RefusedFileIs25, Row, wordsIn, IsRow, AreRows, allWords, fileOf, figuresBetween, between, allBetween, FiguresOf, ComparesRows}
 use Rattle.files_compare.proofs.Orders.{refuses-in-order, keeps-or-tells}
 
 -- ---- A file of words: the edition, the count, and the words of rows.
@@ -37,7 +37,7 @@ module _ (count : ℕ) (rest : List ℕ) (small : count < 2 ^ 64) where
   unfolding words
   edition-here = word-whole file 0 (omega (arith, words-length)) ∙ ap (λ (ws : List ℕ). getD ws 0 0) first-two
 
-  pub count-here : rowsIn file ≡ count
+  pub count-here : rowCount file ≡ count
   unfolding words
   count-here = word-whole file countPlace (omega (arith, words-length)) ∙ ap (λ (ws : List ℕ). getD ws 1 0) first-two
 
@@ -54,7 +54,7 @@ module _ (count : ℕ) (rest : List ℕ) (small : count < 2 ^ 64) where
   pub and-more : count ≤ mostRows → count * rowWords < length rest → resultsCheck file ≡ Fault 25 (16 + 8 * (count * rowWords))
   unfolding resultsCheck
   and-more few more =
-      let end : countPlace + 8 + 8 * (rowsIn file * rowWords) ≡ 16 + 8 * (count * rowWords) = omega (arith, count-here) in
+      let end : countPlace + 8 + 8 * (rowCount file * rowWords) ≡ 16 + 8 * (count * rowWords) = omega (arith, count-here) in
       ap₂ _⟫_ edition-sound
       (left-behind file countPlace mostRows rowWords (omega (arith, words-length)) (omega (arith, count-here, few)) (omega (arith, words-length, count-here, more))
       ∙ ap (λ (p : ℕ). Fault 25 p) end)
@@ -102,13 +102,16 @@ module _ (file : List ℕ) (k : ℕ) (r : Row) (is : IsRow r) (rest : List ℕ) 
       let two : rowFigures + n ≡ suc (suc n) = omega arith in
       word-is (rowFigures + n) (omega (arith, is .nine)) ∙ ap (λ (m : ℕ). getD (wordsIn r ++ rest) m 0) two
 
+  figure-of : (n : ℕ) → n < 9 → wordIn (rowAt file k) (rowFigures + n) ≡ getD (r .figures) n 0
+  figure-of n h = figure-is n (omega (arith, is .nine)) ∙ List·getD-append (r .figures) rest 0 n (omega (arith, is .nine))
+
   next-here : wordsFrom file (rowPlace (suc k)) ≡ rest
   next-here =
       let next : rowPlace (suc k) ≡ rowPlace k + 8 * rowWords = omega arith in
       ap (wordsFrom file) next ∙ words-later file (rowPlace k) rowWords ∙ ap (drop rowWords) here ∙ drop-at (wordsIn r) rest rowWords (row-words r is)
 
 -- ---- Figures, from the first on.
-module _ (are : Rows) where
+module _ (are : RowKind) where
   -- What is told of figures, by their number, from number j on.
   from : (vs ws : ℕ → ℕ) (j n : ℕ) → List ℕ
   from vs ws j zero = []
@@ -135,11 +138,11 @@ module _ (are : Rows) where
       (by-lists vs ws restV restW f g (suc j) (omega arith) (λ m h. ap f (later m) ∙ p (suc m) (omega arith)) (λ m h. ap g (later m) ∙ q (suc m) (omega arith)))
 
 -- What is told of the first figures of two rows, by their numbers.
-told-from : (l r : List ℕ) (n : ℕ) → figuresTold l r n ≡ from (rowsOn l r) (λ m. wordIn l (rowFigures + m)) (λ m. wordIn r (rowFigures + m)) 0 n
+told-from : (l r : List ℕ) (n : ℕ) → figuresTold l r n ≡ from (kindOn l r) (λ m. wordIn l (rowFigures + m)) (λ m. wordIn r (rowFigures + m)) 0 n
 unfolding figuresTold from
 told-from l r zero = refl
 told-from l r (suc n) =
-    let are = rowsOn l r in
+    let are = kindOn l r in
     let so-far = from are (λ m. wordIn l (rowFigures + m)) (λ m. wordIn r (rowFigures + m)) 0 n in
     let here : n ≡ 0 + n = omega arith in
     ap (λ (ws : List ℕ). ws ++ figureWords (figureOn l r n)) (told-from l r n)
@@ -164,14 +167,14 @@ module _ (left right : List ℕ) (k : ℕ) (l r : Row) (restL restR : List ℕ)
 
   row-between : rowTold one other ≡ between l r
   row-between =
-      let are : rowsOn one other ≡ rowsOf (l .refusal) (r .refusal) = ap₂ rowsOf (refusal-is left k l il restL hl) (refusal-is right k r ir restR hr) in
+      let are : kindOn one other ≡ rowKindOf (l .refusal) (r .refusal) = ap₂ rowKindOf (refusal-is left k l il restL hl) (refusal-is right k r ir restR hr) in
       let figures =
-      ap (λ (n : ℕ). from (rowsOn one other) (λ m. wordIn one (rowFigures + m)) (λ m. wordIn other (rowFigures + m)) 0 n) (sym (il .nine))
-      ∙ by-lists (rowsOn one other) (l .figures) (r .figures) restL restR (λ m. wordIn one (rowFigures + m)) (λ m. wordIn other (rowFigures + m)) 0
+      ap (λ (n : ℕ). from (kindOn one other) (λ m. wordIn one (rowFigures + m)) (λ m. wordIn other (rowFigures + m)) 0 n) (sym (il .nine))
+      ∙ by-lists (kindOn one other) (l .figures) (r .figures) restL restR (λ m. wordIn one (rowFigures + m)) (λ m. wordIn other (rowFigures + m)) 0
       (il .nine ∙ sym (ir .nine)) (at-zero left k l il restL hl) (at-zero right k r ir restR hr)
       in
-      ap (λ (ws : List ℕ). rowsWord (rowsOn one other) ∷ ws) (told-from one other figuresOfRow ∙ figures)
-      ∙ ap (λ (a : Rows). rowsWord a ∷ figuresBetween a (l .figures) (r .figures)) are
+      ap (λ (ws : List ℕ). rowKindWord (kindOn one other) ∷ ws) (told-from one other figuresOfRow ∙ figures)
+      ∙ ap (λ (a : RowKind). rowKindWord a ∷ figuresBetween a (l .figures) (r .figures)) are
 
 -- What is told of rows, from row k on.
 rowOf : (left right : List ℕ) (k : ℕ) → List ℕ
@@ -208,6 +211,18 @@ each left right k (l ∷ ls) (r ∷ rs) al ar e hl hr =
     ap₂ _++_ (row-between left right k l r (allWords ls) (allWords rs) (al .0) (ar .0) hl hr)
     (each left right (suc k) ls rs (al .1) (ar .1) (omega arith) (next-here left k l (al .0) (allWords ls) hl) (next-here right k r (ar .0) (allWords rs) hr))
 
+-- What is told of each figure, by the rows.
+figures-of : (left right : List ℕ) (k : ℕ) (ls rs : List Row) → AreRows ls → AreRows rs →
+    wordsFrom left (rowPlace k) ≡ allWords ls → wordsFrom right (rowPlace k) ≡ allWords rs → FiguresOf left right k ls rs
+figures-of left right k [] rs al ar hl hr = tt
+figures-of left right k (l ∷ ls) [] al ar hl hr = tt
+figures-of left right k (l ∷ ls) (r ∷ rs) al ar hl hr = (
+  λ j h i.
+      figureIn (rowKindOf (refusal-is left k l (al .0) (allWords ls) hl i) (refusal-is right k r (ar .0) (allWords rs) hr i))
+      (figure-of left k l (al .0) (allWords ls) hl j h i) (figure-of right k r (ar .0) (allWords rs) hr j h i),
+  figures-of left right (suc k) ls rs (al .1) (ar .1) (next-here left k l (al .0) (allWords ls) hl) (next-here right k r (ar .0) (allWords rs) hr),
+)
+
 pub compares-rows : ComparesRows
 compares-rows ls rs al ar same few run fits =
     let left = fileOf ls in
@@ -215,15 +230,18 @@ compares-rows ls rs al ar same few run fits =
     let n = length ls in
     let sl : n < 2 ^ 64 = omega arith in
     let sr : length rs < 2 ^ 64 = omega arith in
-    let cl : rowsIn left ≡ n = count-here n (allWords ls) sl in
-    let cr : rowsIn right ≡ length rs = count-here (length rs) (allWords rs) sr in
+    let cl : rowCount left ≡ n = count-here n (allWords ls) sl in
+    let cr : rowCount right ≡ length rs = count-here (length rs) (allWords rs) sr in
     let soundL = exactly n (allWords ls) sl few (all-words ls al) in
     let soundR = exactly (length rs) (allWords rs) sr (omega arith) (all-words rs ar) in
+    let restL = rest-here n (allWords ls) sl (all-below ls al) in
+    let restR = rest-here (length rs) (allWords rs) sr (all-below rs ar) in
     let e = refuses-in-order left right (length run) .else-compared soundL soundR (cl ∙ same ∙ sym cr) (omega (arith, cl)) in
     let told : rowsTold left right n ≡ allBetween ls rs =
-    rows-from left right n ∙ each left right 0 ls rs al ar same (rest-here n (allWords ls) sl (all-below ls al)) (rest-here (length rs) (allWords rs) sr (all-below rs ar))
+    rows-from left right n ∙ each left right 0 ls rs al ar same restL restR
     in
     record {
       answer = e ∙ ap (λ (m : ℕ). comparison.Compared m (largestOf left right m)) cl;
+      in-figures = figures-of left right 0 ls rs al ar restL restR;
       in-run = keeps-or-tells left right run .told _ _ e ∙ ap (λ (m : ℕ). rowsTold left right m ++ drop (toldWords * m) run) cl ∙ ap (λ (l : List ℕ). l ++ drop (toldWords * n) run) told;
     }

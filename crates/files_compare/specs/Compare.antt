@@ -11,7 +11,7 @@ use Rattle.files_sections.specs.declared.sections.Section.the-variants.{Request
 use Rattle.files_sections.specs.Checks.{need, _⟫_, editionCheck, filledCheck}
 use Rattle.files_sections.specs.Sections.{limitOf}
 use Rattle.files_sections.specs.ResultLayout.{resultEdition, rowWords, rowBytes, countPlace, rowPlace, rowRefusal, rowFigures, figuresOfRow}
-use Rattle.files_told.specs.declared.told.Rows.{Rows}
+use Rattle.files_told.specs.declared.told.RowKind.{RowKind}
 use Rattle.files_told.specs.declared.told.Figure.{Figure}
 use Rattle.files_told.specs.declared.told.Largest.{Largest}
 use Rattle.files_told.specs.declared.told.Largest.the-variants as largest
@@ -19,7 +19,7 @@ use Rattle.files_told.specs.declared.told.Side.{Side}
 use Rattle.files_told.specs.declared.told.Side.the-variants as side
 use Rattle.files_told.specs.declared.told.Comparison.{Comparison}
 use Rattle.files_told.specs.declared.told.Comparison.the-variants as comparison
-use Rattle.files_told.specs.Told.{rowsOf, rowsWord, figureIn, figureWords, largestWith}
+use Rattle.files_told.specs.Told.{rowKindOf, rowKindWord, figureIn, figureWords, largestWith, comparisonWords}
 
 -- ---- A result file: its edition, a count of at most 1,500 rows, those rows, whose words may hold any bits, and nothing behind them.
 abbrev pub mostRows : ℕ
@@ -29,8 +29,8 @@ unfoldable pub resultsCheck : List ℕ → Check
 unfolding editionCheck filledCheck
 resultsCheck file = editionCheck file resultEdition ⟫ filledCheck file countPlace mostRows rowWords
 
-abbrev pub rowsIn : List ℕ → ℕ
-rowsIn file = wordAt file countPlace
+abbrev pub rowCount : List ℕ → ℕ
+rowCount file = wordAt file countPlace
 
 -- ---- Two rows, by their bytes. Word n of a row:
 abbrev pub wordIn : (row : List ℕ) (n : ℕ) → ℕ
@@ -38,11 +38,11 @@ wordIn row n = wordAt row (8 * n)
 
 module _ (l r : List ℕ) where
   -- What they are; and what is told of their figure j, the first being figure 0.
-  abbrev pub rowsOn : Rows
-  rowsOn = rowsOf (wordIn l rowRefusal) (wordIn r rowRefusal)
+  abbrev pub kindOn : RowKind
+  kindOn = rowKindOf (wordIn l rowRefusal) (wordIn r rowRefusal)
 
   abbrev pub figureOn : (j : ℕ) → Figure
-  figureOn j = figureIn rowsOn (wordIn l (rowFigures + j)) (wordIn r (rowFigures + j))
+  figureOn j = figureIn kindOn (wordIn l (rowFigures + j)) (wordIn r (rowFigures + j))
 
   -- The words of their first n figures, a kind and a distance each; and all 19.
   unfoldable pub figuresTold : (n : ℕ) → List ℕ
@@ -50,7 +50,7 @@ module _ (l r : List ℕ) where
   figuresTold (suc n) = figuresTold n ++ figureWords (figureOn n)
 
   abbrev pub rowTold : List ℕ
-  rowTold = rowsWord rowsOn ∷ figuresTold figuresOfRow
+  rowTold = rowKindWord kindOn ∷ figuresTold figuresOfRow
 
   -- The first largest distance with their first n figures, after what is known of those before; they are rows k.
   unfoldable pub largestInRow : Largest → (k n : ℕ) → Largest
@@ -62,8 +62,8 @@ unfoldable pub rowAt : List ℕ → (k : ℕ) → List ℕ
 rowAt file k = take rowBytes (drop (rowPlace k) file)
 
 module _ (left right : List ℕ) where
-  abbrev pub rowsAt : (k : ℕ) → Rows
-  rowsAt k = rowsOn (rowAt left k) (rowAt right k)
+  abbrev pub kindAt : (k : ℕ) → RowKind
+  kindAt k = kindOn (rowAt left k) (rowAt right k)
 
   abbrev pub figureAt : (k j : ℕ) → Figure
   figureAt k j = figureOn (rowAt left k) (rowAt right k) j
@@ -77,9 +77,12 @@ module _ (left right : List ℕ) where
   largestOf zero = largest.Nowhere
   largestOf (suc n) = largestInRow (rowAt left n) (rowAt right n) (largestOf n) n figuresOfRow
 
--- The words that are told of a row.
+-- The words that are told of a row, and of all rows of a file.
 abbrev pub toldWords : ℕ
-toldWords = 19
+toldWords = 1 + 2 * figuresOfRow
+
+abbrev pub wordsNeeded : (left : List ℕ) → ℕ
+wordsNeeded left = toldWords * rowCount left
 
 -- ---- What is answered. "21, 22, 23 and 25, left file first .., then 51 row counts differ", then 26 where the lent run is too short, with the words needed.
 abbrev pub unlessRefused : Side → Check → Comparison → Comparison
@@ -89,18 +92,22 @@ unlessRefused s (Fault number place) next = comparison.Refused number s place
 unfoldable pub comparisonOf : (left right : List ℕ) (room : ℕ) → Comparison
 unfolding resultsCheck
 comparisonOf left right room =
-    let count = rowsIn left in
+    let count = rowCount left in
     unlessRefused side.Left (resultsCheck left)
     (unlessRefused side.Right (resultsCheck right)
-    (unlessRefused side.Neither (need (eqb count (rowsIn right)) 51 0)
-    (unlessRefused side.Neither (need (leb (toldWords * count) room) 26 (toldWords * count))
+    (unlessRefused side.Neither (need (eqb count (rowCount right)) 51 0)
+    (unlessRefused side.Neither (need (leb (wordsNeeded left) room) 26 (wordsNeeded left))
     (comparison.Compared count (largestOf left right count)))))
 
--- What the lent run holds afterwards: what is told of the rows, and behind that what it held; under a refusal, all of that.
+-- What the lent run holds afterwards: what is told of the rows, and behind that what it held; under a refusal, all that it held.
 abbrev pub unlessCompared : Comparison → (kept told : List ℕ) → List ℕ
 unlessCompared (comparison.Compared count l) kept told = told
 unlessCompared (comparison.Refused number s place) kept told = kept
 
 unfoldable pub runAfter : (left right run : List ℕ) → List ℕ
 runAfter left right run =
-    unlessCompared (comparisonOf left right (length run)) run (rowsTold left right (rowsIn left) ++ drop (toldWords * rowsIn left) run)
+    unlessCompared (comparisonOf left right (length run)) run (rowsTold left right (rowCount left) ++ drop (wordsNeeded left) run)
+
+-- The seven words of the answer.
+abbrev pub compareWords : (left right run : List ℕ) → List ℕ
+compareWords left right run = comparisonWords (comparisonOf left right (length run))

@@ -1,14 +1,14 @@
 -- Pairs of result files with what document 02 says of them (T-07), through the whole of two files; then one statement each, computed from the definitions. All is worked out by hand.
 use mathlib.Core.Path.{_≡_, refl}
 use mathlib.Core.List.{List, [], _∷_, _++_, map}
-use Prim.Native.Nat.{ℕ, zero, suc, _+_, _*_, _-_}
+use Prim.Native.Nat.{ℕ, _+_, _*_, _-_}
 use lib.Ieee.{ofBits}
 use lib.ListN.{length, take, replicate}
 use Rattle.bits.specs.Words.{infinity, minusZero}
 use Rattle.files_words.specs.Bytes.{numberOf, bytesOf, asBytes, words, wordsFrom, wordAt}
 use Rattle.files_sections.specs.Checks.{walk, countCheck, countedCheck, editionCheck, filledCheck}
-use Rattle.files_told.specs.Told.{rowsOf, rowsWord, figureOf, figureIn, figureWords, largestWith, comparisonWords}
-use Rattle.files_compare.specs.Compare.{resultsCheck, figuresTold, rowAt, rowsTold, largestInRow, largestOf, comparisonOf, runAfter}
+use Rattle.files_told.specs.Told.{rowKindOf, rowKindWord, figureOf, figureIn, figureWords, largestWith, comparisonWords}
+use Rattle.files_compare.specs.Compare.{resultsCheck, figuresTold, rowAt, rowsTold, largestInRow, largestOf, comparisonOf, compareWords, runAfter}
 
 -- ---- Words.
 abbrev one : ℕ
@@ -31,12 +31,25 @@ acrossZero = 2 * one
 abbrev minusInfinity : ℕ
 minusInfinity = minusZero + infinity
 
--- Two NaNs.
+-- The ends of the line of finite doubles.
+abbrev highest : ℕ
+highest = infinity - 1
+
+abbrev lowest : ℕ
+lowest = minusInfinity - 1
+
+-- NaNs: one, one beside it, one with its sign bit set, and one without the first's highest digit.
 abbrev nan : ℕ
-nan = 0x7ff8000000000000
+nan = 0x7ff8000000000001
 
 abbrev otherNan : ℕ
 otherNan = nan + 1
+
+abbrev minusNan : ℕ
+minusNan = minusZero + nan
+
+abbrev quietless : ℕ
+quietless = 0x7ff0000000000001
 
 -- ---- Rows. What the two rows hold, and the 19 words that are told of them.
 pub record Case : Type 0 where
@@ -58,6 +71,10 @@ row figures = 0 ∷ 21 ∷ figures
 abbrev refused : (number : ℕ) → List ℕ
 refused number = number ∷ 0 ∷ 0 ∷ 0 ∷ 0 ∷ 0 ∷ 0 ∷ 0 ∷ 0 ∷ 0 ∷ 0 ∷ []
 
+-- A refused row that holds figures all the same.
+abbrev holding : (number : ℕ) → List ℕ → List ℕ
+holding number figures = number ∷ 21 ∷ figures
+
 -- What is told of nine figures that did not move; of nine of which nothing is told.
 abbrev unmoved : List ℕ
 unmoved = replicate 18 0
@@ -67,7 +84,7 @@ untold = 3 ∷ 0 ∷ 3 ∷ 0 ∷ 3 ∷ 0 ∷ 3 ∷ 0 ∷ 3 ∷ 0 ∷ 3 ∷ 0 ∷
 
 abbrev pub table : List Case
 table =
-    -- "Points are not compared"; "Distance 0 is a distance".
+    -- Points are not compared, and 0 is a distance.
     case (p10 21 one) (p10 22 one) (0 ∷ unmoved)
     -- Each figure in its own place, one place and more.
     ∷ case (row (one ∷ one ∷ one ∷ one ∷ one ∷ one ∷ one ∷ one ∷ one ∷ [])) (row (up 1 ∷ up 2 ∷ up 3 ∷ up 4 ∷ down 5 ∷ down 6 ∷ down 7 ∷ down 8 ∷ up 9 ∷ []))
@@ -75,24 +92,30 @@ table =
     -- "A figure not finite on either side has no distance, and is told as equal bits or unequal bits": by bits, so that NaNs can be equal.
     ∷ case (row (infinity ∷ infinity ∷ one ∷ nan ∷ nan ∷ nan ∷ minusInfinity ∷ 0 ∷ one ∷ [])) (row (infinity ∷ one ∷ infinity ∷ nan ∷ otherNan ∷ one ∷ infinity ∷ minusZero ∷ minusOne ∷ []))
     (0 ∷ 1 ∷ 0 ∷ 2 ∷ 0 ∷ 2 ∷ 0 ∷ 1 ∷ 0 ∷ 2 ∷ 0 ∷ 2 ∷ 0 ∷ 2 ∷ 0 ∷ 0 ∷ 0 ∷ 0 ∷ acrossZero ∷ [])
+    -- From end to end; across zero in least units; an infinity below zero, on either side; NaNs with their sign bit set.
+    ∷ case (row (highest ∷ 1 ∷ minusInfinity ∷ one ∷ minusNan ∷ nan ∷ nan ∷ 1 ∷ 0 ∷ [])) (row (lowest ∷ 0x8000000000000002 ∷ one ∷ minusInfinity ∷ minusNan ∷ minusNan ∷ quietless ∷ 0 ∷ minusZero ∷ []))
+    (0 ∷ 0 ∷ 0xffdffffffffffffe ∷ 0 ∷ 3 ∷ 2 ∷ 0 ∷ 2 ∷ 0 ∷ 1 ∷ 0 ∷ 2 ∷ 0 ∷ 2 ∷ 0 ∷ 0 ∷ 1 ∷ 0 ∷ 0 ∷ [])
     -- "A row is refused when its first word isn't 0", on one side, on both, with one number or two; whatever the other words hold.
     ∷ case (refused 3) (p10 21 one) (1 ∷ untold)
     ∷ case (p10 21 one) (refused 3) (2 ∷ untold)
-    ∷ case (refused 3) (3 ∷ p10 9 one) (3 ∷ untold)
+    ∷ case (refused 3) (holding 3 (replicate 9 one)) (3 ∷ untold)
     ∷ case (refused 3) (refused 4) (4 ∷ untold)
-    ∷ case (minusZero ∷ take 10 (p10 21 one)) (p10 21 one) (1 ∷ untold)
+    ∷ case (holding minusZero (replicate 9 one)) (p10 21 one) (1 ∷ untold)
+    ∷ case (holding 3 (replicate 9 nan)) (row (replicate 9 infinity)) (1 ∷ untold)
+    ∷ case (row (replicate 9 nan)) (holding 3 (replicate 9 nan)) (2 ∷ untold)
+    ∷ case (holding 3 (replicate 9 nan)) (holding 259 (replicate 9 nan)) (4 ∷ untold)
     ∷ []
 
 abbrev leftRows : List Case → List ℕ
 leftRows [] = []
-leftRows (c ∷ cs) = take 11 (c .left) ++ leftRows cs
+leftRows (c ∷ cs) = c .left ++ leftRows cs
 
 abbrev rightRows : List Case → List ℕ
 rightRows [] = []
-rightRows (c ∷ cs) = take 11 (c .right) ++ rightRows cs
+rightRows (c ∷ cs) = c .right ++ rightRows cs
 
 abbrev allTold : List Case → List ℕ
-allTold [] = 7 ∷ []
+allTold [] = []
 allTold (c ∷ cs) = c .told ++ allTold cs
 
 -- "edition 1, the request count, then per request 11 words".
@@ -100,8 +123,8 @@ abbrev file : (count : ℕ) → List ℕ → List ℕ
 file count rows = asBytes (1 ∷ count ∷ rows)
 
 -- Each pair of rows of the table, in one pair of files; the word behind those that are told stays.
-pub marked : runAfter (file (length table) (leftRows table)) (file (length table) (rightRows table)) (replicate (19 * length table) 9 ++ (7 ∷ [])) ≡ allTold table
-unfolding runAfter comparisonOf resultsCheck editionCheck filledCheck countedCheck countCheck walk words wordsFrom wordAt numberOf bytesOf asBytes rowsTold rowAt figuresTold largestOf largestInRow largestWith rowsOf rowsWord figureIn figureOf figureWords ofBits
+pub marked : runAfter (file (length table) (leftRows table)) (file (length table) (rightRows table)) (replicate (19 * length table) 9 ++ (7 ∷ [])) ≡ allTold table ++ (7 ∷ [])
+unfolding runAfter comparisonOf resultsCheck editionCheck filledCheck countedCheck countCheck walk words wordsFrom wordAt numberOf bytesOf asBytes rowsTold rowAt figuresTold largestOf largestInRow largestWith rowKindOf rowKindWord figureIn figureOf figureWords ofBits
 marked = refl
 
 -- ---- Files: their bytes, the words lent for the rows, and the seven words that are answered.
@@ -125,14 +148,19 @@ whole = file 1 (p10 21 one)
 abbrev cut : (n : ℕ) → List ℕ
 cut n = take n whole
 
+-- A file of it three times.
+abbrev three : List ℕ
+three = file 3 (p10 1 one ++ (p10 1 one ++ p10 1 one))
+
 abbrev pub files : List FileCase
 files =
     -- The row and word of the first largest distance: here the first figure, and 0.
     answers whole whole 19 (0 ∷ 0 ∷ 0 ∷ 1 ∷ 0 ∷ 2 ∷ 0 ∷ [])
     ∷ answers whole (file 1 (p10 22 (up 1))) 400 (0 ∷ 0 ∷ 0 ∷ 1 ∷ 0 ∷ 2 ∷ 1 ∷ [])
+    ∷ answers (file 1 (p10 1 highest)) (file 1 (p10 1 lowest)) 19 (0 ∷ 0 ∷ 0 ∷ 1 ∷ 0 ∷ 2 ∷ 0xffdffffffffffffe ∷ [])
     -- "the first largest": of two in one row, and of two rows.
     ∷ answers (file 1 (row (one ∷ one ∷ one ∷ one ∷ one ∷ one ∷ one ∷ one ∷ one ∷ []))) (file 1 (row (one ∷ up 1 ∷ down 3 ∷ one ∷ up 3 ∷ one ∷ one ∷ one ∷ down 2 ∷ []))) 19 (0 ∷ 0 ∷ 0 ∷ 1 ∷ 0 ∷ 4 ∷ 3 ∷ [])
-    ∷ answers (file 3 (p10 1 one ++ (p10 1 one ++ p10 1 one))) (file 3 (p10 1 one ++ (p10 1 (down 2) ++ p10 1 (up 2)))) 57 (0 ∷ 0 ∷ 0 ∷ 3 ∷ 1 ∷ 2 ∷ 2 ∷ [])
+    ∷ answers three (file 3 (p10 1 one ++ (p10 1 (down 2) ++ p10 1 (up 2)))) 57 (0 ∷ 0 ∷ 0 ∷ 3 ∷ 1 ∷ 2 ∷ 2 ∷ [])
     -- "the row count and 11 where no figure has one": no row at all, none that is answered on both sides, or none that is finite.
     ∷ answers (file 0 []) (file 0 []) 0 (0 ∷ 0 ∷ 0 ∷ 0 ∷ 0 ∷ 11 ∷ 0 ∷ [])
     ∷ answers (file 1 (refused 3)) whole 19 (0 ∷ 0 ∷ 0 ∷ 1 ∷ 1 ∷ 11 ∷ 0 ∷ [])
@@ -146,6 +174,9 @@ files =
     ∷ answers (asBytes (1 ∷ 1500 ∷ [])) whole 19 (refuses 21 0 16)
     ∷ answers (cut 103) [] 19 (refuses 21 0 96)
     ∷ answers (whole ++ (0 ∷ [])) (cut 103) 19 (refuses 25 0 104)
+    ∷ answers (asBytes (1 ∷ minusZero ∷ [])) whole 19 (refuses 23 0 8)
+    ∷ answers (take 275 three) whole 19 (refuses 21 0 272)
+    ∷ answers (three ++ (0 ∷ 0 ∷ [])) whole 19 (refuses 25 0 280)
     -- "the three words of a refused file are 25".
     ∷ answers (asBytes (1 ∷ 0 ∷ 21 ∷ [])) whole 19 (refuses 25 0 16)
     -- "left file first", then the right one, "then 51 row counts differ"; 26 last, with the words needed.
@@ -158,6 +189,6 @@ files =
     ∷ answers whole whole 0 (refuses 26 0 19)
     ∷ []
 
-pub marked-files : map (λ (c : FileCase). comparisonWords (comparisonOf (c .left) (c .right) (c .room))) files ≡ map (λ (c : FileCase). c .answer) files
-unfolding comparisonWords comparisonOf resultsCheck editionCheck filledCheck countedCheck countCheck walk words wordsFrom wordAt numberOf bytesOf asBytes rowAt largestOf largestInRow largestWith rowsOf figureIn figureOf ofBits
+pub marked-files : map (λ (c : FileCase). compareWords (c .left) (c .right) (replicate (c .room) 9)) files ≡ map (λ (c : FileCase). c .answer) files
+unfolding comparisonWords comparisonOf resultsCheck editionCheck filledCheck countedCheck countCheck walk words wordsFrom wordAt numberOf bytesOf asBytes rowAt largestOf largestInRow largestWith rowKindOf figureIn figureOf ofBits
 marked-files = refl

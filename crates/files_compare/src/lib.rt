@@ -1,12 +1,11 @@
 // Layer 5: two result files compared, figure by figure, in last places (document 02, T-07).
 ghost use mathlib.Core.Path.{_≡_};
-ghost use mathlib.Core.List.{_∷_};
 ghost use Prim.Native.Nat.{_+_, _*_, _<_, _≤_};
 ghost use lib.ListN.{length};
 ghost use Rattle.files_words.specs.Bytes.{put};
 ghost use Rattle.files_sections.specs.ResultLayout.{rowPlace, rowBytes, figuresOfRow};
-ghost use Rattle.files_told.specs.Told.{figureWords, rowsWord};
-ghost use Rattle.files_compare.specs.Compare.{mostRows, toldWords, resultsCheck, rowsOn, figuresTold, rowTold, rowAt, rowsTold, largestInRow, largestOf, comparisonOf, runAfter};
+ghost use Rattle.files_told.specs.Told.{figureWords};
+ghost use Rattle.files_compare.specs.Compare.{mostRows, toldWords, resultsCheck, kindOn, figuresTold, rowTold, rowAt, rowsTold, largestInRow, largestOf, comparisonOf, runAfter};
 use files_sections::Check;
 use files_sections::MOST_REQUESTS;
 use files_sections::check_edition;
@@ -23,13 +22,13 @@ use files_sections::results::ROW_WORDS;
 use files_told::Comparison;
 use files_told::Figure;
 use files_told::Largest;
-use files_told::Rows;
+use files_told::RowKind;
 use files_told::Side;
 use files_told::figure_in;
 use files_told::figure_words;
 use files_told::largest_with;
-use files_told::rows_of;
-use files_told::rows_word;
+use files_told::row_kind_of;
+use files_told::row_kind_word;
 use files_words::word_at;
 
 // The words that are told of a row: what it is, then a kind and a distance for each figure.
@@ -60,11 +59,11 @@ fn tell_figures(
     l: &[u8],
     r: &[u8],
     k: usize,
-    rows: Rows,
+    kind: RowKind,
     run: &mut [u64],
     known: Largest,
 ) -> Largest
-    requires { ⌜ (k < mostRows) × (toldWords * k + toldWords ≤ length (now run)) × (rows ≡ rowsOn (now l) (now r)) ⌝ }
+    requires { ⌜ (k < mostRows) × (toldWords * k + toldWords ≤ length (now run)) × (kind ≡ kindOn (now l) (now r)) ⌝ }
     ensures run { λ _. ⌜ now (run .exit) ≡ put (now (run .entry)) (toldWords * k + 1) (figuresTold (now (l .entry)) (now (r .entry)) figuresOfRow) ⌝ }
     ensures largest { λ x. ⌜ x ≡ largestInRow (now (l .entry)) (now (r .entry)) known k figuresOfRow ⌝ }
 {
@@ -73,7 +72,7 @@ fn tell_figures(
     while 0 < rest {
         let j = FIGURES_OF_ROW - rest;
         let word = ROW_FIGURES + j;
-        let figure = figure_in(rows, word_at(l, 8 * word), word_at(r, 8 * word));
+        let figure = figure_in(kind, word_at(l, 8 * word), word_at(r, 8 * word));
         put_figure(run, TOLD_WORDS * k + 1 + 2 * j, figure);
         largest = largest_with(largest, k, word, figure);
         rest -= 1;
@@ -87,9 +86,9 @@ fn tell_row(l: &[u8], r: &[u8], k: usize, run: &mut [u64], known: Largest) -> La
     ensures run { λ _. ⌜ now (run .exit) ≡ put (now (run .entry)) (toldWords * k) (rowTold (now (l .entry)) (now (r .entry))) ⌝ }
     ensures largest { λ x. ⌜ x ≡ largestInRow (now (l .entry)) (now (r .entry)) known k figuresOfRow ⌝ }
 {
-    let rows = rows_of(word_at(l, 8 * ROW_REFUSAL), word_at(r, 8 * ROW_REFUSAL));
-    run[TOLD_WORDS * k] = rows_word(rows);
-    tell_figures(l, r, k, rows, run, known)
+    let kind = row_kind_of(word_at(l, 8 * ROW_REFUSAL), word_at(r, 8 * ROW_REFUSAL));
+    run[TOLD_WORDS * k] = row_kind_word(kind);
+    tell_figures(l, r, k, kind, run, known)
 }
 
 // Rows k of two files that have them.

@@ -10,11 +10,11 @@ use Rattle.files_reader.specs.Reader.{readingOf}
 use Rattle.files_reader.specs.declared.Places.{Places}
 use Rattle.files_reader.specs.declared.Reading.{Reading}
 use Rattle.files_reader.proofs.Accepted.{accepted-counts}
-use Rattle.files_compare.specs.Compare.{resultsCheck, rowsIn}
+use Rattle.files_compare.specs.Compare.{resultsCheck, rowCount}
 use Rattle.files_compare.proofs.RowsLaws.{exactly, count-here, refused-file-is-25}
 use Rattle.files_results.specs.Results.{Accepted, rowsOf, resultBy, resultFile}
 use Rattle.files_results.specs.Own.{OwnComparable}
-use Rattle.files_results.proofs.Rows.{rows-length}
+use Rattle.files_results.proofs.RowKind.{rows-length}
 
 by-reading : (file : List ℕ) {reading : Reading} → readingOf file ≡ reading → resultFile file ≡ asBytes (resultBy file reading)
 unfolding resultFile
@@ -38,7 +38,7 @@ own-comparable file = record {
   accepted =
       λ places e. (
         ap resultsCheck (by-reading file e) ∙ exactly (places .requests .count) _ (small file places e) (few file places e) (size file places e),
-        ap rowsIn (by-reading file e) ∙ count-here (places .requests .count) _ (small file places e),
+        ap rowCount (by-reading file e) ∙ count-here (places .requests .count) _ (small file places e),
       );
   refused = λ number place e. ap resultsCheck (by-reading file e) ∙ refused-file-is-25 number;
 }

@@ -6,11 +6,11 @@ use Rattle.files_sections.specs.declared.checks.Check.the-variants.{Sound, Faul
 use Rattle.files_reader.specs.Reader.{readingOf}
 use Rattle.files_reader.specs.declared.Places.{Places}
 use Rattle.files_reader.specs.declared.Reading.the-variants as reading
-use Rattle.files_compare.specs.Compare.{resultsCheck, rowsIn}
+use Rattle.files_compare.specs.Compare.{resultsCheck, rowCount}
 use Rattle.files_results.specs.Results.{Accepted, resultFile}
 
 pub record Comparable (file : List ℕ) : Type 0 where
-  pub accepted : (places : Places) → Accepted file places → (resultsCheck (resultFile file) ≡ Sound) × (rowsIn (resultFile file) ≡ places .requests .count)
+  pub accepted : (places : Places) → Accepted file places → (resultsCheck (resultFile file) ≡ Sound) × (rowCount (resultFile file) ≡ places .requests .count)
   pub refused : (number place : ℕ) → readingOf file ≡ reading.Refused number place → resultsCheck (resultFile file) ≡ Fault 25 16
 
 abbrev pub OwnComparable : Type 0

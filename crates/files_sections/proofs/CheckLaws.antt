@@ -3,6 +3,7 @@ use Prim.Native.Nat.{ℕ}
 use native.Mathlib.Omega.{arith}
 use mathlib.Core.Path.{_≡_, refl, sym, ap, _∙_}
 use mathlib.Core.Bool.{Bool, true, false}
+use mathlib.Core.Logic.{_⊎_, inl, inr}
 use Rattle.files_sections.specs.declared.checks.Check.{Check}
 use Rattle.files_sections.specs.declared.checks.Check.the-variants.{Sound, Fault}
 use Rattle.files_sections.specs.Checks.{need, _⟫_}
@@ -39,3 +40,12 @@ needed false number place e = fault-is-not-sound e
 pub in-a-row : (a b c : Check) → ((a ⟫ b) ⟫ c) ≡ (a ⟫ (b ⟫ c))
 in-a-row Sound b c = refl
 in-a-row (Fault number place) b c = refl
+
+-- ---- Where a fault comes from: the first check, or the next where the first finds nothing; a need that does not hold.
+pub first-fault : (a b : Check) {number place : ℕ} → (a ⟫ b) ≡ Fault number place → (a ≡ Fault number place) ⊎ ((a ≡ Sound) × (b ≡ Fault number place))
+first-fault Sound b e = inr (refl, e)
+first-fault (Fault n p) b e = inl e
+
+pub needed-not : (holds : Bool) (n p : ℕ) {number place : ℕ} → need holds n p ≡ Fault number place → (holds ≡ false) × (number ≡ n) × (place ≡ p)
+needed-not true n p e = fault-is-not-sound (sym e)
+needed-not false n p e = (refl, cc, cc)

@@ -1,11 +1,14 @@
 -- A counted section that is sound, in a file: its count is within its limit, and all its words are there and keep the rule.
-use Prim.Native.Nat.{ℕ, _+_, _*_, _^_, _<_, _≤_}
+use Prim.Native.Nat.{ℕ, _+_, _-_, _*_, _/_, _^_, _<_, _≤_}
 use native.Mathlib.Nat.{mul-le-mul}
+use native.Mathlib.Decide.{decLt}
 use native.Mathlib.Omega.{arith}
 use mathlib.Core.Bool.{Bool}
-use mathlib.Core.Path.{_≡_, ap, ap₂, _∙_}
+use mathlib.Core.Logic.{_⊎_, inl, inr}
+use mathlib.Core.Path.{_≡_, sym, ap, ap₂, _∙_}
 use mathlib.Core.List.{List, []}
-use borrow.Author.Tests.{leb-true, le-leb, lt-leb, eqb-true, eq-eqb}
+use borrow.Author.Tests.{leb-true, leb-false, le-leb, lt-leb, eqb-true, eq-eqb}
+use lib.Dec.{leb}
 use lib.ListN.{length}
 use Rattle.files_words.specs.Bytes.{wordAt, wordsFrom}
 use Rattle.files_words.proofs.WordLaws.{length-words-from}
@@ -13,8 +16,8 @@ use Rattle.files_sections.specs.declared.checks.Check.{Check}
 use Rattle.files_sections.specs.declared.checks.Check.the-variants.{Sound, Fault}
 use Rattle.files_sections.specs.declared.checks.Rule.the-variants.{Any}
 use Rattle.files_sections.specs.Checks.{need, _⟫_, Ruling, walk, rulingOf, countCheck, countedCheck, endCheck, editionCheck, filledCheck, restCheck}
-use Rattle.files_sections.proofs.CheckLaws.{both, needed, in-a-row, sound-both, sound-need}
-use Rattle.files_sections.proofs.WalkLaws.{walk-needs, walk-any}
+use Rattle.files_sections.proofs.CheckLaws.{both, needed, needed-not, in-a-row, sound-both, sound-need}
+use Rattle.files_sections.proofs.WalkLaws.{walk-needs, walk-any, walk-any-short}
 
 module _ (file : List ℕ) (place limit : ℕ) where
   pub count-sound : countCheck file place limit ≡ Sound → (place + 8 ≤ length file) × (wordAt file place ≤ limit)
@@ -88,6 +91,24 @@ module _ (file : List ℕ) (place limit width : ℕ) where
   left-behind whole few more =
       let up-to : endOf ≤ length file = omega (arith, more) in
       filled-to-end whole few up-to ∙ ap (λ (t : Bool). need t 25 endOf) (lt-leb (length file) endOf more)
+
+-- What is wrong with the rest of a file: a word is missing, told at the first that is not whole, or bytes are left.
+pub rest-fault : (file : List ℕ) (place count : ℕ) {number at : ℕ} → restCheck file place count ≡ Fault number at →
+    ((number ≡ 21) × (at ≡ place + 8 * ((length file - place) / 8)) × ((length file - place) / 8 < count)) ⊎ ((number ≡ 25) × (at ≡ place + 8 * count) × (place + 8 * count < length file))
+rest-fault file place count {number} {at} e =
+    let l = length-words-from file place in
+    elim (decLt (length (wordsFrom file place)) count) [
+      | yes short ↦
+          let w = walk-any-short place [] count (wordsFrom file place) short in
+          let f : Fault 21 (place + 8 * length (wordsFrom file place)) ≡ Fault number at = sym (ap (λ (k : Check). k ⟫ endCheck file (place + 8 * count)) w) ∙ e in
+          let n : 21 ≡ number = cc f in
+          let p : place + 8 * length (wordsFrom file place) ≡ at = cc f in
+          inl (omega arith, omega (arith, l), omega (arith, l))
+      | no enough ↦
+          let w = walk-any place [] count (wordsFrom file place) (omega arith) in
+          let f = needed-not (leb (length file) (place + 8 * count)) 25 (place + 8 * count) (sym (ap (λ (k : Check). k ⟫ endCheck file (place + 8 * count)) w) ∙ e) in
+          inr (f .1, f .2, leb-false (length file) (place + 8 * count) (f .0))
+    ]
 
 -- ---- The edition, in a file.
 pub edition-is : (file : List ℕ) (edition : ℕ) → editionCheck file edition ≡ Sound → (8 ≤ length file) × (wordAt file 0 ≡ edition)

@@ -19,7 +19,7 @@ abbrev pub rowPlace : ℕ → ℕ
 rowPlace k = 8 * (headWords + rowWords * k)
 
 abbrev pub rowBytes : ℕ
-rowBytes = 88
+rowBytes = 8 * rowWords
 
 -- The words of a row, by their names: position, velocity and end acceleration are nine figures, from one word on.
 abbrev pub rowRefusal : ℕ

@@ -1,17 +1,16 @@
 -- The distance of two words is the number of steps between their doubles.
-use mathlib.Core.Path.{_≡_, refl, sym, ap, _∙_}
+use mathlib.Core.Path.{_≡_, refl, sym, _∙_}
 use mathlib.Core.Bool.{Bool, true, false, not}
-use Prim.Native.Nat.{ℕ, _+_, _-_, _*_, _%_, _^_, _≤_, _<_}
+use Prim.Native.Nat.{ℕ, _+_, _%_, _^_, _≤_, _<_}
 use native.Mathlib.Decide.{decLt}
 use native.Mathlib.Omega.{arith}
-use borrow.Author.Tests.{lt-ltb, le-ltb, ltb-true, eq-eqb, eqb-true, le-leb, leb-true}
-use lib.Dec.{T, ltb}
+use borrow.Author.Tests.{lt-ltb, ltb-true, eq-eqb, eqb-true, le-leb, leb-true}
+use lib.Dec.{T}
 use lib.Ieee.{binary64, ofBits}
-use Rattle.bits.specs.Choice.{pick}
 use Rattle.bits.specs.Words.{fieldOf, infinity, minusZero}
 use Rattle.bits.specs.Line.{isNanWord, lineOf, wordOn}
 use Rattle.bits.proofs.Doubles.{finite-by-field, finite-no-nan}
-use Rattle.bits.proofs.Line.{in-order, same-place, place-back}
+use Rattle.bits.proofs.Line.{line-clear, line-set, word-left, word-right, in-order, same-place, place-back}
 use Rattle.files_told.specs.Distance.{distanceOf, Finite, Less, Symmetric, ZeroForEqual, IsNext, NextIsOne, AddsUp, FitsWord}
 
 pub symmetric : Symmetric
@@ -36,22 +35,22 @@ finite w h k =
 on-line : (w : ℕ) → Finite w → (minusZero < lineOf w + infinity) × (lineOf w < minusZero + infinity)
 on-line w f = elim (decLt w minusZero) [
   | yes l ↦
-      let e : lineOf w ≡ minusZero + w = ap (λ (b : Bool). pick b (minusZero + w) (2 ^ 64 - w)) (lt-ltb w minusZero l) in
+      let e = line-clear w l in
       (omega (arith, e, small w f), omega (arith, e, small w f))
   | no g ↦
       let up : minusZero ≤ w = omega arith in
-      let e : lineOf w ≡ 2 ^ 64 - w = ap (λ (b : Bool). pick b (minusZero + w) (2 ^ 64 - w)) (le-ltb w minusZero up) in
+      let e = line-set w up in
       (omega (arith, e, small w f, f .is-word), omega (arith, e, small w f, f .is-word))
 ]
 
 placed : (p : ℕ) → minusZero < p + infinity → p < minusZero + infinity → Finite (wordOn p)
 placed p a b = elim (decLt p minusZero) [
   | yes l ↦
-      let e : wordOn p ≡ minusZero + (minusZero - p) % minusZero = ap (λ (t : Bool). pick t (minusZero + (minusZero - p) % minusZero) (p - minusZero)) (lt-ltb p minusZero l) in
+      let e = word-left p l in
       finite (wordOn p) (omega (arith, e)) (omega (arith, e))
   | no g ↦
       let up : minusZero ≤ p = omega arith in
-      let e : wordOn p ≡ p - minusZero = ap (λ (t : Bool). pick t (minusZero + (minusZero - p) % minusZero) (p - minusZero)) (le-ltb p minusZero up) in
+      let e = word-right p up in
       finite (wordOn p) (omega (arith, e)) (omega (arith, e))
 ]
 

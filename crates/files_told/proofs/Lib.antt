@@ -1,3 +1,4 @@
--- The laws of distances, and what each public function leaves open.
+-- The laws of distances and of what is told, and what each public function leaves open.
 pub mod DistanceLaws
+pub mod ToldLaws
 pub mod OneAnswers

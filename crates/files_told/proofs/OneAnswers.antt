@@ -3,10 +3,10 @@ use mathlib.Core.Path.{refl, sym, _∙_}
 use Rattle.bits.specs.OneAnswer.{OneAnswer}
 use Rattle.files_told.proofs.distance.distance_of.Kinds as distance-of-kinds
 use Rattle.files_told.proofs.distance.distance_of.Reads as distance-of-reads
-use Rattle.files_told.proofs.told.rows_of.Kinds as rows-of-kinds
-use Rattle.files_told.proofs.told.rows_of.Reads as rows-of-reads
-use Rattle.files_told.proofs.told.rows_word.Kinds as rows-word-kinds
-use Rattle.files_told.proofs.told.rows_word.Reads as rows-word-reads
+use Rattle.files_told.proofs.told.row_kind_of.Kinds as row-kind-of-kinds
+use Rattle.files_told.proofs.told.row_kind_of.Reads as row-kind-of-reads
+use Rattle.files_told.proofs.told.row_kind_word.Kinds as row-kind-word-kinds
+use Rattle.files_told.proofs.told.row_kind_word.Reads as row-kind-word-reads
 use Rattle.files_told.proofs.told.figure_in.Kinds as figure-in-kinds
 use Rattle.files_told.proofs.told.figure_in.Reads as figure-in-reads
 use Rattle.files_told.proofs.told.figure_words.Kinds as figure-words-kinds
@@ -19,11 +19,11 @@ use Rattle.files_told.proofs.told.words_of.Reads as words-of-reads
 pub distance-of-one : OneAnswer 0 distance-of-kinds.ps distance-of-kinds.r distance-of-reads.Post
 distance-of-one κs a x y v w p q = (p ∙ sym q, refl)
 
-pub rows-of-one : OneAnswer 0 rows-of-kinds.ps rows-of-kinds.r rows-of-reads.Post
-rows-of-one κs a x y v w p q = (p ∙ sym q, refl)
+pub row-kind-of-one : OneAnswer 0 row-kind-of-kinds.ps row-kind-of-kinds.r row-kind-of-reads.Post
+row-kind-of-one κs a x y v w p q = (p ∙ sym q, refl)
 
-pub rows-word-one : OneAnswer 0 rows-word-kinds.ps rows-word-kinds.r rows-word-reads.Post
-rows-word-one κs a x y v w p q = (p ∙ sym q, refl)
+pub row-kind-word-one : OneAnswer 0 row-kind-word-kinds.ps row-kind-word-kinds.r row-kind-word-reads.Post
+row-kind-word-one κs a x y v w p q = (p ∙ sym q, refl)
 
 pub figure-in-one : OneAnswer 0 figure-in-kinds.ps figure-in-kinds.r figure-in-reads.Post
 figure-in-one κs a x y v w p q = (p ∙ sym q, refl)

@@ -41,7 +41,7 @@ distances =
     ∷ apart one 0x4000000000000000 0x0010000000000000
     ∷ apart 0x4000000000000000 0x4010000000000000 0x0010000000000000
     ∷ apart one minusOne (2 * one)
-    -- "never more than fits a word": from end to end.
+    -- From end to end.
     ∷ apart (infinity - 1) (minusZero + infinity - 1) 0xffdffffffffffffe
     ∷ []
 

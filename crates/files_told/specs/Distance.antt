@@ -1,7 +1,7 @@
 -- Document 02, T-07: "the distance in last places, taken on the number line of finite doubles where both zeros are one place". The line is that of `bits`: `lineOf` is the
 -- index of a word on it.
 use mathlib.Core.Path.{_≡_}
-use mathlib.Core.Bool.{true, false}
+use mathlib.Core.Bool.{true}
 use Prim.Native.Nat.{ℕ, _+_, _-_, _*_, _^_, _≤_, _<_}
 use lib.Ieee.{binary64, lt, eq, ofBits}
 use Rattle.bits.specs.Arithmetic.{isFinite}
@@ -26,10 +26,13 @@ abbrev pub Symmetric : Type 0
 Symmetric = (v w : ℕ) → distanceOf v w ≡ distanceOf w v
 
 -- 0 exactly for equal numbers; both zeros are equal.
-abbrev pub ZeroForEqual : Type 0
-ZeroForEqual = (v w : ℕ) → Finite v → Finite w → (distanceOf v w ≡ 0 → eq (ofBits binary64 v) (ofBits binary64 w) ≡ true) × (eq (ofBits binary64 v) (ofBits binary64 w) ≡ true → distanceOf v w ≡ 0)
+abbrev pub Equal : (v w : ℕ) → Type 0
+Equal v w = eq (ofBits binary64 v) (ofBits binary64 w) ≡ true
 
--- "the next double is 1 away": w is the next above v where no double is between them, and 1 is the distance of no others.
+abbrev pub ZeroForEqual : Type 0
+ZeroForEqual = (v w : ℕ) → Finite v → Finite w → (distanceOf v w ≡ 0 → Equal v w) × (Equal v w → distanceOf v w ≡ 0)
+
+-- The next double is 1 away: w is the next above v where no double is between them; and 1 is the distance of no others.
 pub record IsNext (v w : ℕ) : Type 0 where
   pub above : Less v w
   pub none-between : (u : ℕ) → Finite u → Less v u → Less u w → ⊥
@@ -43,6 +46,6 @@ AddsUp =
     (v u w : ℕ) → Finite v → Finite u → Finite w →
     (Less u v → ⊥) → (Less w u → ⊥) → distanceOf v w ≡ distanceOf v u + distanceOf u w
 
--- "never more than fits a word": from the largest finite double below zero to the largest above.
+-- It fits a word: the largest is from the lowest finite double to the highest.
 abbrev pub FitsWord : Type 0
 FitsWord = (v w : ℕ) → Finite v → Finite w → (distanceOf v w ≤ 2 * (infinity - 1)) × (distanceOf v w < 2 ^ 64)

@@ -1,15 +1,15 @@
 -- Document 02, T-07: what is told of a figure, of a row and of the largest distance, and the words of each case.
-use mathlib.Core.Bool.{Bool, true, false, _&&_}
+use mathlib.Core.Bool.{Bool, _&&_}
 use mathlib.Core.List.{List, [], _∷_}
-use Prim.Native.Nat.{ℕ, zero, suc}
+use Prim.Native.Nat.{ℕ}
 use lib.Dec.{eqb, ltb}
 use lib.Ieee.{binary64, ofBits}
 use Rattle.bits.specs.Choice.{pick}
 use Rattle.bits.specs.Arithmetic.{isFinite}
 use Rattle.files_sections.specs.ResultLayout.{rowWords}
 use Rattle.files_told.specs.Distance.{distanceOf}
-use Rattle.files_told.specs.declared.told.Rows.{Rows}
-use Rattle.files_told.specs.declared.told.Rows.the-variants as rows
+use Rattle.files_told.specs.declared.told.RowKind.{RowKind}
+use Rattle.files_told.specs.declared.told.RowKind.the-variants as kind
 use Rattle.files_told.specs.declared.told.Figure.{Figure}
 use Rattle.files_told.specs.declared.told.Figure.the-variants as figure
 use Rattle.files_told.specs.declared.told.Largest.{Largest}
@@ -19,21 +19,21 @@ use Rattle.files_told.specs.declared.told.Side.the-variants as side
 use Rattle.files_told.specs.declared.told.Comparison.{Comparison}
 use Rattle.files_told.specs.declared.told.Comparison.the-variants as comparison
 
--- ---- Rows. "A row is refused when its first word isn't 0. Rows where just one side refused are listed apart. Rows refused on both sides tell only whether the numbers
--- agree." By the first words of the two:
-unfoldable pub rowsOf : (left right : ℕ) → Rows
-rowsOf left right =
+-- ---- Rows. "A row is refused when its first word isn't 0. Rows where just one side refused are listed apart", by kinds of their own. "Rows refused on both sides tell only whether the
+-- numbers agree." By the first words of the two:
+unfoldable pub rowKindOf : (left right : ℕ) → RowKind
+rowKindOf left right =
     pick (eqb left 0)
-    (pick (eqb right 0) rows.Answered rows.RightRefused)
-    (pick (eqb right 0) rows.LeftRefused
-    (pick (eqb left right) rows.RefusedAlike rows.RefusedUnlike))
+    (pick (eqb right 0) kind.Answered kind.RightRefused)
+    (pick (eqb right 0) kind.LeftRefused
+    (pick (eqb left right) kind.RefusedAlike kind.RefusedUnlike))
 
-unfoldable pub rowsWord : Rows → ℕ
-rowsWord rows.Answered = 0
-rowsWord rows.LeftRefused = 1
-rowsWord rows.RightRefused = 2
-rowsWord rows.RefusedAlike = 3
-rowsWord rows.RefusedUnlike = 4
+unfoldable pub rowKindWord : RowKind → ℕ
+rowKindWord kind.Answered = 0
+rowKindWord kind.LeftRefused = 1
+rowKindWord kind.RightRefused = 2
+rowKindWord kind.RefusedAlike = 3
+rowKindWord kind.RefusedUnlike = 4
 
 -- ---- Figures. "A figure not finite on either side has no distance, and is told as equal bits or unequal bits." By its two words:
 abbrev pub bothFinite : (left right : ℕ) → Bool
@@ -46,27 +46,28 @@ figureOf left right =
     (pick (eqb left right) figure.EqualBits figure.UnequalBits)
 
 -- Of rows that are refused on a side nothing is told of a figure.
-unfoldable pub figureIn : Rows → (left right : ℕ) → Figure
-figureIn rows.Answered left right = figureOf left right
-figureIn rows.LeftRefused left right = figure.Untold
-figureIn rows.RightRefused left right = figure.Untold
-figureIn rows.RefusedAlike left right = figure.Untold
-figureIn rows.RefusedUnlike left right = figure.Untold
+unfoldable pub figureIn : RowKind → (left right : ℕ) → Figure
+figureIn kind.Answered left right = figureOf left right
+figureIn kind.LeftRefused left right = figure.Untold
+figureIn kind.RightRefused left right = figure.Untold
+figureIn kind.RefusedAlike left right = figure.Untold
+figureIn kind.RefusedUnlike left right = figure.Untold
 
--- Its kind and its distance; "the distance is 0 but for kind 0".
+-- Its kind and its distance, which is 0 but for kind 0.
 unfoldable pub figureWords : Figure → List ℕ
 figureWords (figure.Distance d) = 0 ∷ d ∷ []
 figureWords figure.EqualBits = 1 ∷ 0 ∷ []
 figureWords figure.UnequalBits = 2 ∷ 0 ∷ []
 figureWords figure.Untold = 3 ∷ 0 ∷ []
 
--- ---- "the row and word of the first largest distance". What is known of it so far, and one figure more: it takes the place only of a smaller distance, so that the first of the largest stands.
-abbrev pub unlessSmaller : Largest → (row word d : ℕ) → Largest
-unlessSmaller largest.Nowhere row word d = largest.At row word d
-unlessSmaller (largest.At r w most) row word d = pick (ltb most d) (largest.At row word d) (largest.At r w most)
+-- ---- "the row and word of the first largest distance". What is known of it so far, and one figure more: it takes the place only of a smaller distance, so that the first of the largest
+-- stands.
+abbrev pub firstLarger : Largest → (row word d : ℕ) → Largest
+firstLarger largest.Nowhere row word d = largest.At row word d
+firstLarger (largest.At r w most) row word d = pick (ltb most d) (largest.At row word d) (largest.At r w most)
 
 unfoldable pub largestWith : Largest → (row word : ℕ) → Figure → Largest
-largestWith known row word (figure.Distance d) = unlessSmaller known row word d
+largestWith known row word (figure.Distance d) = firstLarger known row word d
 largestWith known row word figure.EqualBits = known
 largestWith known row word figure.UnequalBits = known
 largestWith known row word figure.Untold = known
@@ -76,7 +77,7 @@ abbrev pub largestWords : (count : ℕ) → Largest → List ℕ
 largestWords count largest.Nowhere = count ∷ rowWords ∷ 0 ∷ []
 largestWords count (largest.At row word d) = row ∷ word ∷ d ∷ []
 
--- ---- The answer's seven words: refusal, side, place, row count, then row, word and distance of the first largest distance. "Under a refusal the last four are 0."
+-- ---- The answer's seven words: refusal, side, place, row count, then row, word and distance of the first largest distance. Under a refusal the last four are 0.
 abbrev pub sideWord : Side → ℕ
 sideWord side.Neither = 0
 sideWord side.Left = 0

@@ -1,12 +1,12 @@
 // What is told of two rows, of a figure, of the largest distance, and of two files; and the words of each case.
 ghost use mathlib.Core.Path.{_≡_};
-ghost use Rattle.files_told.specs.Told.{rowsOf, rowsWord, bothFinite, figureOf, figureIn, figureWords, unlessSmaller, largestWith, comparedWords, sideWord, comparisonWords};
+ghost use Rattle.files_told.specs.Told.{rowKindOf, rowKindWord, bothFinite, figureOf, figureIn, figureWords, firstLarger, largestWith, comparedWords, sideWord, comparisonWords};
 use crate::distance::distance_of;
 use bits::words::is_finite_word;
 use files_sections::results::ROW_WORDS;
 
 // What two rows are: answered on both sides, refused on one alone, or on both, with one number or with two.
-pub enum Rows {
+pub enum RowKind {
     Answered,
     LeftRefused,
     RightRefused,
@@ -53,34 +53,34 @@ pub enum Comparison {
 }
 
 // What two rows are, by the first word of each.
-pub fn rows_of(left: u64, right: u64) -> Rows
-    ensures { λ r. ⌜ r ≡ rowsOf left right ⌝ }
+pub fn row_kind_of(left: u64, right: u64) -> RowKind
+    ensures { λ r. ⌜ r ≡ rowKindOf left right ⌝ }
 {
     if left == 0 {
         if right == 0 {
-            return Rows::Answered;
+            return RowKind::Answered;
         }
-        return Rows::RightRefused;
+        return RowKind::RightRefused;
     }
     if right == 0 {
-        return Rows::LeftRefused;
+        return RowKind::LeftRefused;
     }
     if left == right {
-        return Rows::RefusedAlike;
+        return RowKind::RefusedAlike;
     }
-    Rows::RefusedUnlike
+    RowKind::RefusedUnlike
 }
 
 // Its word.
-pub fn rows_word(rows: Rows) -> u64
-    ensures { λ r. ⌜ r ≡ rowsWord rows ⌝ }
+pub fn row_kind_word(kind: RowKind) -> u64
+    ensures { λ r. ⌜ r ≡ rowKindWord kind ⌝ }
 {
-    match rows {
-        Rows::Answered => 0,
-        Rows::LeftRefused => 1,
-        Rows::RightRefused => 2,
-        Rows::RefusedAlike => 3,
-        Rows::RefusedUnlike => 4,
+    match kind {
+        RowKind::Answered => 0,
+        RowKind::LeftRefused => 1,
+        RowKind::RightRefused => 2,
+        RowKind::RefusedAlike => 3,
+        RowKind::RefusedUnlike => 4,
     }
 }
 
@@ -108,15 +108,15 @@ fn figure_of(left: u64, right: u64) -> Figure
 }
 
 // What is told of a figure of any two rows.
-pub fn figure_in(rows: Rows, left: u64, right: u64) -> Figure
-    ensures { λ r. ⌜ r ≡ figureIn rows left right ⌝ }
+pub fn figure_in(kind: RowKind, left: u64, right: u64) -> Figure
+    ensures { λ r. ⌜ r ≡ figureIn kind left right ⌝ }
 {
-    match rows {
-        Rows::Answered => figure_of(left, right),
-        Rows::LeftRefused => Figure::Untold,
-        Rows::RightRefused => Figure::Untold,
-        Rows::RefusedAlike => Figure::Untold,
-        Rows::RefusedUnlike => Figure::Untold,
+    match kind {
+        RowKind::Answered => figure_of(left, right),
+        RowKind::LeftRefused => Figure::Untold,
+        RowKind::RightRefused => Figure::Untold,
+        RowKind::RefusedAlike => Figure::Untold,
+        RowKind::RefusedUnlike => Figure::Untold,
     }
 }
 
@@ -133,8 +133,8 @@ pub fn figure_words(figure: Figure) -> [u64; 2]
 }
 
 // The first largest of a distance and those before it.
-fn unless_smaller(known: Largest, row: usize, word: usize, distance: u64) -> Largest
-    ensures { λ r. ⌜ r ≡ unlessSmaller known row word distance ⌝ }
+fn first_larger(known: Largest, row: usize, word: usize, distance: u64) -> Largest
+    ensures { λ r. ⌜ r ≡ firstLarger known row word distance ⌝ }
 {
     match known {
         Largest::Nowhere => Largest::At {
@@ -164,14 +164,14 @@ pub fn largest_with(known: Largest, row: usize, word: usize, figure: Figure) -> 
     ensures { λ r. ⌜ r ≡ largestWith known row word figure ⌝ }
 {
     match figure {
-        Figure::Distance(distance) => unless_smaller(known, row, word, distance),
+        Figure::Distance(distance) => first_larger(known, row, word, distance),
         Figure::EqualBits => known,
         Figure::UnequalBits => known,
         Figure::Untold => known,
     }
 }
 
-// The three words of the first largest distance, by the count of rows, behind the other four of an answer.
+// The seven words of files that are compared: no refusal, the count of rows, and the first largest distance, if there is one.
 fn compared_words(count: usize, largest: Largest) -> [u64; 7]
     ensures { λ r. ⌜ r ≡ comparedWords count largest ⌝ }
 {

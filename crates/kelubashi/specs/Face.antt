@@ -16,8 +16,6 @@ use Rattle.files_results.specs.Results.{outcomeOf}
 use Rattle.files_results.specs.declared.Outcome.{Outcome}
 use Rattle.files_summary.specs.declared.changes.Change.{Change}
 use Rattle.files_check.specs.declared.Judged.{Judged}
-use Rattle.files_told.specs.Told.{comparisonWords}
-use Rattle.files_compare.specs.Compare.{comparisonOf}
 
 -- What is returned, for an answer of n words and a run as it was handed in.
 abbrev pub returned : ℕ → List ℕ → ℕ → ℕ
@@ -54,10 +52,6 @@ changeWords c = c .number ∷ c .count ∷ []
 -- The answer to a file of rows: number, then the place of the refusal, or the rows.
 abbrev pub judgedWords : Judged → List ℕ
 judgedWords j = j .number ∷ j .«place_or_rows» ∷ []
-
--- The answer to two result files: number, side, place, the rows, then row, word and distance of the first largest distance.
-abbrev pub compareWords : (left right rows : List ℕ) → List ℕ
-compareWords left right rows = comparisonWords (comparisonOf left right (length rows))
 
 -- The number of an answer is its first word.
 abbrev pub numberIn : List ℕ → ℕ

@@ -10,8 +10,8 @@ ghost use Rattle.files_results.specs.Results.{outcomeOf, resultFile};
 ghost use lib.ListN.{length};
 ghost use Rattle.files_summary.specs.Changes.{entryWidth, summaryRefusal, summaryList, appendBeside, appendRunBeside, withdrawBeside, withdrawRunBeside, settledBy, putEntry};
 ghost use Rattle.files_check.specs.RowsFile.{judgedOf, verdictsAfter};
-ghost use Rattle.files_compare.specs.Compare.{runAfter};
-ghost use Rattle.kelubashi.specs.Face.{returned, answerAfter, lentBehind, readWords, resultsWords, numberIn, writeNumber, writeAnswer, writeRoom, changeWords, judgedWords, compareWords};
+ghost use Rattle.files_compare.specs.Compare.{compareWords, runAfter};
+ghost use Rattle.kelubashi.specs.Face.{returned, answerAfter, lentBehind, readWords, resultsWords, numberIn, writeNumber, writeAnswer, writeRoom, changeWords, judgedWords};
 
 mod answers;
 

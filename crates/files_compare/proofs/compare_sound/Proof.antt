@@ -13,7 +13,7 @@ use Rattle.files_told.specs.declared.told.Largest.{Largest}
 use Rattle.files_told.specs.declared.told.Side.the-variants as side
 use Rattle.files_told.specs.declared.told.Comparison.{Comparison}
 use Rattle.files_told.specs.declared.told.Comparison.the-variants as comparison
-use Rattle.files_compare.specs.Compare.{mostRows, resultsCheck, rowsIn, rowsTold, largestOf, toldWords, comparisonOf, runAfter}
+use Rattle.files_compare.specs.Compare.{mostRows, resultsCheck, rowCount, rowsTold, largestOf, toldWords, comparisonOf, runAfter}
 use Rattle.files_compare.proofs.Steps.{rows-length}
 use Rattle.files_compare.proofs.Orders.{sound-so, refuses-in-order, keeps-or-tells}
 use Rattle.files_compare.proofs.compare_sound.Statement.{statement}
@@ -23,7 +23,7 @@ module _ (left right run : List ℕ) (sound : (resultsCheck left ≡ Sound) × (
   abbrev Right : Comparison → List ℕ → Type 0
   Right c after = (c ≡ comparisonOf left right (length run)) × (after ≡ runAfter left right run)
 
-  module _ {v w : ℕ} (ev : v ≡ rowsIn left) (ew : w ≡ rowsIn right) where
+  module _ {v w : ℕ} (ev : v ≡ rowCount left) (ew : w ≡ rowCount right) where
     counts-differ : (v ≡ w → ⊥) → Right (comparison.Refused 51 side.Neither 0) run
     counts-differ h =
         let e = refuses-in-order left right (length run) .then-51 (sound .0) (sound .1) (λ q. h (ev ∙ q ∙ sym ew)) in
@@ -37,7 +37,7 @@ module _ (left right run : List ℕ) (sound : (resultsCheck left ≡ Sound) × (
     told : v ≡ w → toldWords * v ≤ length run → {l : Largest} → l ≡ largestOf left right v → {after : List ℕ} → after ≡ put run 0 (rowsTold left right v) → Right (comparison.Compared v l) after
     told h s el ea =
         let e = refuses-in-order left right (length run) .else-compared (sound .0) (sound .1) (sym ev ∙ h ∙ ew) (omega (arith, ev)) in
-        let n = rowsIn left in
+        let n = rowCount left in
         let words = rows-length left right n in
         let end : 0 + length (rowsTold left right n) ≡ toldWords * n = omega (arith, words) in (
           (λ i. comparison.Compared (ev i) ((el ∙ ap (largestOf left right) ev) i)) ∙ sym e,
@@ -48,11 +48,11 @@ module _ (left right run : List ℕ) (sound : (resultsCheck left ≡ Sound) × (
               ∙ sym (keeps-or-tells left right run .told _ _ e),
         )
 
-few : (left : List ℕ) → resultsCheck left ≡ Sound → {v : ℕ} → v ≡ rowsIn left → v ≤ mostRows
+few : (left : List ℕ) → resultsCheck left ≡ Sound → {v : ℕ} → v ≡ rowCount left → v ≤ mostRows
 few left sound ev = omega (arith, ev, sound-so left sound .few)
 
 -- The rows that a sound file counts are there.
-there : (file : List ℕ) → resultsCheck file ≡ Sound → {v : ℕ} → v ≡ rowsIn file → rowPlace v ≤ length file
+there : (file : List ℕ) → resultsCheck file ≡ Sound → {v : ℕ} → v ≡ rowCount file → rowPlace v ≤ length file
 there file sound ev = omega (arith, ev, sound-so file sound .size)
 
 returns : tie.Need-returns

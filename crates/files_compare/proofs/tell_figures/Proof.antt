@@ -8,11 +8,11 @@ use lib.ListN.{length}
 use Rattle.files_words.specs.Bytes.{put}
 use Rattle.files_words.proofs.PutLaws.{put-nothing}
 use Rattle.files_sections.specs.ResultLayout.{rowFigures, figuresOfRow}
-use Rattle.files_told.specs.declared.told.Rows.{Rows}
+use Rattle.files_told.specs.declared.told.RowKind.{RowKind}
 use Rattle.files_told.specs.declared.told.Figure.{Figure}
 use Rattle.files_told.specs.declared.told.Largest.{Largest}
 use Rattle.files_told.specs.Told.{figureIn, figureWords, largestWith}
-use Rattle.files_compare.specs.Compare.{wordIn, rowsOn, figureOn, figuresTold, largestInRow, toldWords}
+use Rattle.files_compare.specs.Compare.{wordIn, kindOn, figureOn, figuresTold, largestInRow, toldWords}
 use Rattle.files_compare.proofs.Steps.{next-figure}
 use Rattle.files_compare.proofs.tell_figures.Statement.{statement}
 use Rattle.files_compare.proofs.tell_figures.Tie as tie
@@ -33,9 +33,9 @@ module _ (l r run : List ℕ) (k : ℕ) (known : Largest) where
   start h = (sym (put-nothing run at h), refl)
 
   next : (rest j : ℕ) → j ≡ figuresOfRow - rest → 0 < rest → rest ≤ figuresOfRow → toldWords * k + toldWords ≤ length run →
-      {rows : Rows} → rows ≡ rowsOn l r →
+      {kind : RowKind} → kind ≡ kindOn l r →
       {v w : ℕ} → v ≡ wordIn l (rowFigures + j) → w ≡ wordIn r (rowFigures + j) →
-      {f : Figure} → f ≡ figureIn rows v w →
+      {f : Figure} → f ≡ figureIn kind v w →
       {now : List ℕ} → now ≡ toldTo j → {after : List ℕ} → after ≡ put now (at + 2 * j) (figureWords f) →
       {x : Largest} → x ≡ largestTo j → {y : Largest} → y ≡ largestWith x k (rowFigures + j) f →
       (after ≡ toldTo (figuresOfRow - (rest - 1))) × (y ≡ largestTo (figuresOfRow - (rest - 1)))
@@ -48,14 +48,14 @@ module _ (l r run : List ℕ) (k : ℕ) (known : Largest) where
       )
 
 abbrev Inv-loop : tie.InvT-loop
-Inv-loop l r k rows run₀ largest₀ rest₀ run largest rest =
+Inv-loop l r k kind run₀ largest₀ rest₀ run largest rest =
     (rest ≤ figuresOfRow)
     × (length run ≡ length run₀)
     × (run ≡ toldTo l r run₀ k largest₀ (figuresOfRow - rest))
     × (largest ≡ largestTo l r run₀ k largest₀ (figuresOfRow - rest))
 
 abbrev μ-loop : tie.MeasureT-loop
-μ-loop l r k rows run₀ largest₀ rest₀ run largest rest = rest
+μ-loop l r k kind run₀ largest₀ rest₀ run largest rest = rest
 
 loop-holds : tie.Need-loop-holds Inv-loop μ-loop
 loop-holds c =

@@ -1,55 +1,55 @@
 -- The word of the rows, then their figures behind it.
 use Prim.Native.Nat.{ℕ, _+_, _*_, _≤_}
 use mathlib.Core.List.{List, [], _∷_}
-use mathlib.Core.Path.{_≡_, refl, sym, ap, _∙_}
+use mathlib.Core.Path.{_≡_, refl, ap, _∙_}
 use native.Mathlib.Omega.{arith}
 use borrow.Author.Needs.{needs}
 use lib.ListN.{length, set, length-set}
 use Rattle.files_words.specs.Bytes.{put}
 use Rattle.files_words.proofs.PutLaws.{put-byte, put-next}
 use Rattle.files_sections.specs.ResultLayout.{rowRefusal, figuresOfRow}
-use Rattle.files_told.specs.declared.told.Rows.{Rows}
-use Rattle.files_told.specs.Told.{rowsOf, rowsWord}
-use Rattle.files_compare.specs.Compare.{wordIn, rowsOn, figuresTold, rowTold, toldWords}
+use Rattle.files_told.specs.declared.told.RowKind.{RowKind}
+use Rattle.files_told.specs.Told.{rowKindOf, rowKindWord}
+use Rattle.files_compare.specs.Compare.{wordIn, kindOn, figuresTold, rowTold, toldWords}
 use Rattle.files_compare.proofs.Steps.{figures-length}
 use Rattle.files_compare.proofs.tell_row.Statement.{statement}
 use Rattle.files_compare.proofs.tell_row.Tie as tie
 
 module _ (l r : List ℕ) (k : ℕ) where
-  are : {v w : ℕ} → v ≡ wordIn l rowRefusal → w ≡ wordIn r rowRefusal → {rows : Rows} → rows ≡ rowsOf v w → rows ≡ rowsOn l r
-  are ev ew er = er ∙ (λ i. rowsOf (ev i) (ew i))
+  are : {v w : ℕ} → v ≡ wordIn l rowRefusal → w ≡ wordIn r rowRefusal → {kind : RowKind} → kind ≡ rowKindOf v w → kind ≡ kindOn l r
+  are ev ew er = er ∙ (λ i. rowKindOf (ev i) (ew i))
 
-  told : (run : List ℕ) → toldWords * k + toldWords ≤ length run → {rows : Rows} → rows ≡ rowsOn l r → {w : ℕ} → w ≡ rowsWord rows →
+  told : (run : List ℕ) → toldWords * k + toldWords ≤ length run → {kind : RowKind} → kind ≡ kindOn l r → {w : ℕ} → w ≡ rowKindWord kind →
       {after : List ℕ} → after ≡ put (set run (toldWords * k) w) (toldWords * k + 1) (figuresTold l r figuresOfRow) → after ≡ put run (toldWords * k) (rowTold l r)
-  told run fits {rows} er {w} ew ea =
+  told run fits {kind} er {w} ew ea =
       let at = toldWords * k in
       let figures = figuresTold l r figuresOfRow in
       ea
       ∙ ap (λ (l : List ℕ). put l (at + 1) figures) (put-byte run at w (omega arith))
       ∙ put-next run (w ∷ []) figures at (at + 1) refl (omega (arith, figures-length l r figuresOfRow))
-      ∙ ap (λ (n : ℕ). put run at (n ∷ figures)) (ew ∙ ap rowsWord er)
+      ∙ ap (λ (n : ℕ). put run at (n ∷ figures)) (ew ∙ ap rowKindWord er)
 
 tell-figures-requires : tie.Need-tell-figures-requires
 tell-figures-requires c κs =
     let p = c .before .before .before .before .before .before .before .before in
-    let rows = are (p .args .l .now) (p .args .r .now) (p .args .k) (c .before .before .before .before .word-at .ensures) (c .before .before .before .word-at2 .ensures) (c .before .before .rows-of .ensures) in
-    (p .pre .0, simp length-set (p .pre .1), rows)
+    let kind = are (p .args .l .now) (p .args .r .now) (p .args .k) (c .before .before .before .before .word-at .ensures) (c .before .before .before .word-at2 .ensures) (c .before .before .row-kind-of .ensures) in
+    (p .pre .0, simp length-set (p .pre .1), kind)
 
 same-length : tie.Need-same-length
 same-length c =
     let a = c .before .before .before .before .before .before .before .before .before .before .before .args in
-    c .before .before .tell-figures .kept .1 .1 .1 .1 .0 ∙ length-set (a .run .now) (toldWords * a .k) (c .before .before .before .before .rows-word .result)
+    c .before .before .tell-figures .kept .1 .1 .1 .1 .0 ∙ length-set (a .run .now) (toldWords * a .k) (c .before .before .before .before .row-kind-word .result)
 
 returns : tie.Need-returns
 returns c =
     let p = c .before .before .before .before .before .before .before .before .before .before .before in
     let a = p .args in
-    let rows =
+    let kind =
     are (a .l .now) (a .r .now) (a .k) (c .before .before .before .before .before .before .before .word-at .ensures)
-    (c .before .before .before .before .before .before .word-at2 .ensures) (c .before .before .before .before .before .rows-of .ensures)
+    (c .before .before .before .before .before .before .word-at2 .ensures) (c .before .before .before .before .before .row-kind-of .ensures)
     in
     let figures = c .before .before .tell-figures .ensures in
-    (told (a .l .now) (a .r .now) (a .k) (a .run .now) (p .pre .1) rows (c .before .before .before .before .rows-word .ensures) (figures .0), figures .1)
+    (told (a .l .now) (a .r .now) (a .k) (a .run .now) (p .pre .1) kind (c .before .before .before .before .row-kind-word .ensures) (figures .0), figures .1)
 
 pub tell-row-spec : {M : Type 1} → statement M
 tell-row-spec =

@@ -1,15 +1,13 @@
 -- On either side of zero a word is as many steps from the middle of the line as it says without its sign bit.
 use Prim.Native.Nat.{ℕ, _+_, _-_, _/_, _%_, _^_, _≤_, _<_}
-use mathlib.Core.Path.{_≡_, ap}
-use mathlib.Core.Bool.{Bool}
+use mathlib.Core.Path.{_≡_}
 use mathlib.Core.Logic.{_⊎_, inl, inr}
 use native.Mathlib.Decide.{decLt}
 use native.Mathlib.Omega.{arith}
 use borrow.Author.Needs.{needs}
-use borrow.Author.Tests.{lt-ltb, le-ltb}
-use Rattle.bits.specs.Choice.{pick}
 use Rattle.bits.specs.Words.{minusZero}
 use Rattle.bits.specs.Line.{lineOf}
+use Rattle.bits.proofs.Line.{line-clear, line-set}
 use Rattle.files_told.specs.Distance.{distanceOf}
 use Rattle.files_told.proofs.distance.distance_of.Statement.{statement}
 use Rattle.files_told.proofs.distance.distance_of.Tie as tie
@@ -20,11 +18,11 @@ Side w = ((w / 2 ^ 63 ≡ 0) × (lineOf w ≡ minusZero + w % 2 ^ 63)) ⊎ ((w /
 side : (w : ℕ) → w < 2 ^ 64 → Side w
 side w h = elim (decLt w minusZero) [
   | yes l ↦
-      let e : lineOf w ≡ minusZero + w = ap (λ (b : Bool). pick b (minusZero + w) (2 ^ 64 - w)) (lt-ltb w minusZero l) in
+      let e = line-clear w l in
       inl (omega arith, omega (arith, e))
   | no g ↦
       let up : minusZero ≤ w = omega arith in
-      let e : lineOf w ≡ 2 ^ 64 - w = ap (λ (b : Bool). pick b (minusZero + w) (2 ^ 64 - w)) (le-ltb w minusZero up) in
+      let e = line-set w up in
       inr (omega arith, omega (arith, e))
 ]
 

@@ -6,7 +6,7 @@ use Rattle.files_told.proofs.told.largest_with.Tie as tie
 
 returns : tie.Need-returns
 unfolding largestWith
-returns c = rw (c .before .before .figure .given .1) (c .unless-smaller .ensures)
+returns c = rw (c .before .before .figure .given .1) (c .first-larger .ensures)
 
 returns-2 : tie.Need-returns-2
 unfolding largestWith

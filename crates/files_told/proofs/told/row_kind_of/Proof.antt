@@ -1,28 +1,28 @@
 -- Each test is the definition's.
 use borrow.Author.Tests.{eq-eqb, ne-eqb}
-use Rattle.files_told.specs.Told.{rowsOf}
-use Rattle.files_told.proofs.told.rows_of.Statement.{statement}
-use Rattle.files_told.proofs.told.rows_of.Tie as tie
+use Rattle.files_told.specs.Told.{rowKindOf}
+use Rattle.files_told.proofs.told.row_kind_of.Statement.{statement}
+use Rattle.files_told.proofs.told.row_kind_of.Tie as tie
 
 returns : tie.Need-returns
-unfolding rowsOf
+unfolding rowKindOf
 returns c = simp (eq-eqb _ _ (c .before .if1 .taken), eq-eqb _ _ (c .if2 .taken))
 
 returns-2 : tie.Need-returns-2
-unfolding rowsOf
+unfolding rowKindOf
 returns-2 c = simp (eq-eqb _ _ (c .before .if1 .taken), ne-eqb _ _ (c .if2 .left))
 
 returns-3 : tie.Need-returns-3
-unfolding rowsOf
+unfolding rowKindOf
 returns-3 c = simp (ne-eqb _ _ (c .before .if1 .left), eq-eqb _ _ (c .if3 .taken))
 
 returns-4 : tie.Need-returns-4
-unfolding rowsOf
+unfolding rowKindOf
 returns-4 c = simp (ne-eqb _ _ (c .before .before .if1 .left), ne-eqb _ _ (c .before .if3 .left), eq-eqb _ _ (c .if4 .taken))
 
 returns-5 : tie.Need-returns-5
-unfolding rowsOf
+unfolding rowKindOf
 returns-5 c = simp (ne-eqb _ _ (c .before .before .if1 .left), ne-eqb _ _ (c .before .if3 .left), ne-eqb _ _ (c .if4 .left))
 
-pub rows-of-spec : {M : Type 1} → statement M
-rows-of-spec = tie.close (tie.spec returns returns-2 returns-3 returns-4 returns-5)
+pub row-kind-of-spec : {M : Type 1} → statement M
+row-kind-of-spec = tie.close (tie.spec returns returns-2 returns-3 returns-4 returns-5)
