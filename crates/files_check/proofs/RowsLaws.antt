@@ -10,12 +10,14 @@ use lib.ListN.{length, length-append, take, drop, getD}
 use lib.Seq.{drop-cons, append-snoc, take-at, drop-at, getD-at}
 use Rattle.bits.specs.Choice.{pick}
 use Rattle.files_words.specs.Bytes.{words, wordsFrom, Below}
-use Rattle.files_words.proofs.WordLaws.{length-as-bytes, words-as-bytes, words-later, word-of-words, below-append}
+use Rattle.files_words.proofs.WordLaws.{length-as-bytes, words-as-bytes, words-later, word-of-words}
 use Rattle.files_sections.specs.declared.checks.Check.the-variants.{Sound}
+use Rattle.files_sections.specs.Records.{allWords}
+use Rattle.files_sections.proofs.RecordLaws.{all-length, all-below}
 use Rattle.files_sections.proofs.CountedLaws.{sound-filled}
 use Rattle.states_check.proofs.RowLaws.{accepts-own}
 use Rattle.files_check.specs.RowsFile.{mostRows, rowWords, countPlace, rowPlace, rowsIn, rowsCheck, fieldsAt, givenAt, proposedAt, nineAt, verdictOf, verdictAt, verdictsOf, judgedOf, judgedBy, verdictsAfter, verdictsBy}
-use Rattle.files_check.specs.RowsPromise.{Row, wordsIn, IsRow, AreRows, allWords, fileOf, verdictOn, JudgesRows, OurRowsPass}
+use Rattle.files_check.specs.RowsPromise.{Row, wordsIn, IsRow, AreRows, fileOf, verdictOn, JudgesRows, OurRowsPass}
 
 pub our-rows-pass : OurRowsPass
 unfolding verdictOf
@@ -25,13 +27,14 @@ our-rows-pass pr given z = rw (accepts-own pr given z)
 row-length : (r : Row) → IsRow r → length (wordsIn r) ≡ rowWords
 row-length r is = length-append (r .given) (r .anomaly ∷ r .nine) ∙ omega (arith, is .eight-given, is .nine-figures)
 
-all-length : (rows : List Row) → AreRows rows → length (allWords rows) ≡ length rows * rowWords
-all-length [] h = refl
-all-length (r ∷ rs) h = length-append (wordsIn r) (allWords rs) ∙ omega (arith, row-length r (h .0), all-length rs (h .1))
+abbrev rowsWords : List Row → List ℕ
+rowsWords rows = allWords wordsIn rows
 
-all-below : (rows : List Row) → AreRows rows → Below (2 ^ 64) (allWords rows)
-all-below [] h = tt
-all-below (r ∷ rs) h = below-append (2 ^ 64) (wordsIn r) (allWords rs) (h .0 .are-words) (all-below rs (h .1))
+all-words : (rows : List Row) → AreRows rows → length (rowsWords rows) ≡ length rows * rowWords
+all-words rows h = all-length wordsIn IsRow rowWords row-length rows h
+
+below-all : (rows : List Row) → AreRows rows → Below (2 ^ 64) (rowsWords rows)
+below-all rows h = all-below wordsIn IsRow (2 ^ 64) (λ r is. is .are-words) rows h
 
 -- ---- The file.
 module _ (rows : List Row) (are : AreRows rows) (few : length rows ≤ mostRows) where
@@ -42,19 +45,19 @@ module _ (rows : List Row) (are : AreRows rows) (few : length rows ≤ mostRows)
   n = length rows
 
   file-length : length file ≡ rowPlace n
-  file-length = length-as-bytes (n ∷ allWords rows) ∙ omega (arith, all-length rows are)
+  file-length = length-as-bytes (n ∷ rowsWords rows) ∙ omega (arith, all-words rows are)
 
-  all-here : wordsFrom file 0 ≡ n ∷ allWords rows
+  all-here : wordsFrom file 0 ≡ n ∷ rowsWords rows
   unfolding wordsFrom
   all-here =
-      let count : (length file - 0) / 8 ≡ length (n ∷ allWords rows) = omega (arith, length-as-bytes (n ∷ allWords rows)) in
+      let count : (length file - 0) / 8 ≡ length (n ∷ rowsWords rows) = omega (arith, length-as-bytes (n ∷ rowsWords rows)) in
       let below : n < 2 ^ 64 = omega (arith, few) in
-      ap₂ words count (sym (append-nil file)) ∙ words-as-bytes (n ∷ allWords rows) [] (below, all-below rows are)
+      ap₂ words count (sym (append-nil file)) ∙ words-as-bytes (n ∷ rowsWords rows) [] (below, below-all rows are)
 
   count-here : rowsIn file ≡ n
   count-here = sym (word-of-words file 0 0) ∙ ap (λ (ws : List ℕ). getD ws 0 0) all-here
 
-  rest-here : wordsFrom file 8 ≡ allWords rows
+  rest-here : wordsFrom file 8 ≡ rowsWords rows
   rest-here = words-later file 0 1 ∙ ap (drop 1) all-here
 
   sound : rowsCheck file ≡ Sound
@@ -116,14 +119,14 @@ from-first file (suc n) =
     ∙ ap (λ (j : ℕ). snoc-cons file 0 n ++ (verdictAt file j ∷ [])) (omega arith)
     ∙ sym (cons-snoc file 0 n)
 
-each : (file : List ℕ) (k : ℕ) (rows : List Row) → AreRows rows → wordsFrom file (rowPlace k) ≡ allWords rows → snoc-cons file k (length rows) ≡ map verdictOn rows
+each : (file : List ℕ) (k : ℕ) (rows : List Row) → AreRows rows → wordsFrom file (rowPlace k) ≡ rowsWords rows → snoc-cons file k (length rows) ≡ map verdictOn rows
 unfolding snoc-cons
 each file k [] are here = refl
 each file k (r ∷ rs) are here =
     let next : rowPlace (suc k) ≡ rowPlace k + 8 * rowWords = omega arith in
-    ap₂ _∷_ (judged-so file (rowPlace k) r (are .0) (allWords rs) here)
+    ap₂ _∷_ (judged-so file (rowPlace k) r (are .0) (rowsWords rs) here)
     (each file (suc k) rs (are .1)
-    (ap (wordsFrom file) next ∙ words-later file (rowPlace k) rowWords ∙ ap (drop rowWords) here ∙ drop-at (wordsIn r) (allWords rs) rowWords (row-length r (are .0))))
+    (ap (wordsFrom file) next ∙ words-later file (rowPlace k) rowWords ∙ ap (drop rowWords) here ∙ drop-at (wordsIn r) (rowsWords rs) rowWords (row-length r (are .0))))
 
 pub judges-rows : JudgesRows
 unfolding judgedOf verdictsAfter

@@ -1,7 +1,7 @@
 -- What a file of rows means, said of the rows and not of its bytes: each row has its own verdict, in its own place; and those that we answered ourselves have 1.
 use mathlib.Core.Path.{_≡_}
 use mathlib.Core.Logic.{_⊎_}
-use mathlib.Core.List.{List, [], _∷_, _++_, map}
+use mathlib.Core.List.{List, _∷_, _++_, map}
 use Prim.Native.Nat.{ℕ, _+_, _*_, _≤_, _^_}
 use lib.Dec.{leb}
 use lib.ListN.{length, drop}
@@ -12,6 +12,7 @@ use Rattle.states.specs.Call.{propagateBy}
 use Rattle.states_check.specs.RowPromise.{anomalyIn, nineIn}
 use Rattle.files_words.specs.Bytes.{asBytes, Below}
 use Rattle.files_sections.specs.declared.checks.Check.the-variants.{Sound}
+use Rattle.files_sections.specs.Records.{All, allWords}
 use Rattle.files_check.specs.RowsFile.{rowsIn, rowsCheck, verdictOf, judgedOf, verdictsAfter}
 
 -- "rows with eight input words, a proposed anomaly and the nine end figures".
@@ -29,16 +30,11 @@ pub record IsRow (r : Row) : Type 0 where
   pub are-words : Below (2 ^ 64) (wordsIn r)
 
 abbrev pub AreRows : List Row → Type 0
-AreRows [] = Unit {0}
-AreRows (r ∷ rs) = IsRow r × AreRows rs
+AreRows rows = All IsRow rows
 
 -- "Rows come 18 words each after a count": the bytes of a file of these rows.
-abbrev pub allWords : List Row → List ℕ
-allWords [] = []
-allWords (r ∷ rs) = wordsIn r ++ allWords rs
-
 abbrev pub fileOf : List Row → List ℕ
-fileOf rows = asBytes (length rows ∷ allWords rows)
+fileOf rows = asBytes (length rows ∷ allWords wordsIn rows)
 
 abbrev pub verdictOn : Row → ℕ
 verdictOn r = verdictOf (r .given) (r .anomaly) (r .nine)

@@ -3,7 +3,7 @@ ghost use mathlib.Core.Path.{_≡_};
 ghost use Prim.Native.Nat.{_+_, _*_, _≤_, _<_};
 ghost use lib.ListN.{length};
 ghost use Rattle.files_words.specs.Bytes.{wordAt};
-ghost use Rattle.files_check.specs.RowsFile.{mostRows, rowPlace, rowsIn, rowsCheck, givenAt, nineAt, verdictOf, verdictAt, judgedBy, judgedOf, withVerdicts, verdictsBy, verdictsAfter};
+ghost use Rattle.files_check.specs.RowsFile.{mostRows, rowPlace, rowsCheck, givenAt, nineAt, verdictOf, verdictAt, judgedBy, judgedOf, withVerdicts, verdictsBy, verdictsAfter};
 use files_sections::Check;
 use files_sections::check_filled;
 use files_words::word_at;

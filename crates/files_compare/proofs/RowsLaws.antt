@@ -7,17 +7,19 @@ use native.Mathlib.Omega.{arith}
 use lib.ListN.{length, length-append, drop, getD, List·getD-append}
 use lib.Seq.{drop-at}
 use Rattle.files_words.specs.Bytes.{words, wordsFrom, wordAt, asBytes, Below}
-use Rattle.files_words.proofs.WordLaws.{length-as-bytes, as-bytes-append, words-as-bytes, word-whole, word-in-part, words-later, word-of-words, length-words-from, below-append}
+use Rattle.files_words.proofs.WordLaws.{length-as-bytes, as-bytes-append, words-as-bytes, word-whole, word-in-part, words-later, word-of-words, length-words-from}
 use Rattle.files_sections.specs.declared.checks.Check.the-variants.{Sound, Fault}
 use Rattle.files_sections.specs.Checks.{_⟫_, editionCheck, filledCheck}
+use Rattle.files_sections.specs.Records.{allWords}
 use Rattle.files_sections.specs.ResultLayout.{resultEdition, rowWords, rowBytes, countPlace, rowPlace, rowRefusal, rowFigures, figuresOfRow}
 use Rattle.files_sections.proofs.CheckLaws.{sound-both}
+use Rattle.files_sections.proofs.RecordLaws.{all-length, all-below}
 use Rattle.files_sections.proofs.CountedLaws.{sound-filled, left-behind, sound-edition}
 use Rattle.files_told.specs.declared.told.RowKind.{RowKind}
 use Rattle.files_told.specs.declared.told.Comparison.the-variants as comparison
 use Rattle.files_told.specs.Told.{rowKindOf, rowKindWord, figureIn, figureWords}
 use Rattle.files_compare.specs.Compare.{mostRows, resultsCheck, rowCount, wordIn, kindOn, figureOn, figuresTold, rowTold, rowAt, rowsTold, largestOf, toldWords}
-use Rattle.files_compare.specs.ComparePromise.{RefusedFileIs25, Row, wordsIn, IsRow, AreRows, allWords, fileOf, figuresBetween, between, allBetween, FiguresOf, ComparesRows}
+use Rattle.files_compare.specs.ComparePromise.{RefusedFileIs25, Row, wordsIn, IsRow, AreRows, fileOf, figuresBetween, between, allBetween, FiguresOf, ComparesRows}
 use Rattle.files_compare.proofs.Orders.{refuses-in-order, keeps-or-tells}
 
 -- ---- A file of words: the edition, the count, and the words of rows.
@@ -74,13 +76,14 @@ refused-file-is-25 number = and-more 0 (number ∷ []) (omega arith) (omega arit
 row-words : (r : Row) → IsRow r → length (wordsIn r) ≡ rowWords
 row-words r is = omega (arith, is .nine)
 
-all-words : (rs : List Row) → AreRows rs → length (allWords rs) ≡ length rs * rowWords
-all-words [] h = refl
-all-words (r ∷ rs) h = length-append (wordsIn r) (allWords rs) ∙ omega (arith, row-words r (h .0), all-words rs (h .1))
+abbrev rowsWords : List Row → List ℕ
+rowsWords rs = allWords wordsIn rs
 
-all-below : (rs : List Row) → AreRows rs → Below (2 ^ 64) (allWords rs)
-all-below [] h = tt
-all-below (r ∷ rs) h = below-append (2 ^ 64) (wordsIn r) (allWords rs) (h .0 .are-words) (all-below rs (h .1))
+all-words : (rs : List Row) → AreRows rs → length (rowsWords rs) ≡ length rs * rowWords
+all-words rs h = all-length wordsIn IsRow rowWords row-words rs h
+
+below-all : (rs : List Row) → AreRows rs → Below (2 ^ 64) (rowsWords rs)
+below-all rs h = all-below wordsIn IsRow (2 ^ 64) (λ r is. is .are-words) rs h
 
 -- ---- Row k of a file, where the words of a row stand.
 module _ (file : List ℕ) (k : ℕ) (r : Row) (is : IsRow r) (rest : List ℕ) (here : wordsFrom file (rowPlace k) ≡ wordsIn r ++ rest) where
@@ -202,25 +205,25 @@ rows-from left right (suc n) =
     ∙ sym (rows-snoc left right 0 n)
 
 each : (left right : List ℕ) (k : ℕ) (ls rs : List Row) → AreRows ls → AreRows rs → length ls ≡ length rs →
-    wordsFrom left (rowPlace k) ≡ allWords ls → wordsFrom right (rowPlace k) ≡ allWords rs → rowsFrom left right k (length ls) ≡ allBetween ls rs
+    wordsFrom left (rowPlace k) ≡ rowsWords ls → wordsFrom right (rowPlace k) ≡ rowsWords rs → rowsFrom left right k (length ls) ≡ allBetween ls rs
 unfolding rowsFrom rowOf
 each left right k [] [] al ar e hl hr = refl
 each left right k [] (r ∷ rs) al ar e hl hr = refl
 each left right k (l ∷ ls) [] al ar e hl hr = absurd (omega arith)
 each left right k (l ∷ ls) (r ∷ rs) al ar e hl hr =
-    ap₂ _++_ (row-between left right k l r (allWords ls) (allWords rs) (al .0) (ar .0) hl hr)
-    (each left right (suc k) ls rs (al .1) (ar .1) (omega arith) (next-here left k l (al .0) (allWords ls) hl) (next-here right k r (ar .0) (allWords rs) hr))
+    ap₂ _++_ (row-between left right k l r (rowsWords ls) (rowsWords rs) (al .0) (ar .0) hl hr)
+    (each left right (suc k) ls rs (al .1) (ar .1) (omega arith) (next-here left k l (al .0) (rowsWords ls) hl) (next-here right k r (ar .0) (rowsWords rs) hr))
 
 -- What is told of each figure, by the rows.
 figures-of : (left right : List ℕ) (k : ℕ) (ls rs : List Row) → AreRows ls → AreRows rs →
-    wordsFrom left (rowPlace k) ≡ allWords ls → wordsFrom right (rowPlace k) ≡ allWords rs → FiguresOf left right k ls rs
+    wordsFrom left (rowPlace k) ≡ rowsWords ls → wordsFrom right (rowPlace k) ≡ rowsWords rs → FiguresOf left right k ls rs
 figures-of left right k [] rs al ar hl hr = tt
 figures-of left right k (l ∷ ls) [] al ar hl hr = tt
 figures-of left right k (l ∷ ls) (r ∷ rs) al ar hl hr = (
   λ j h i.
-      figureIn (rowKindOf (refusal-is left k l (al .0) (allWords ls) hl i) (refusal-is right k r (ar .0) (allWords rs) hr i))
-      (figure-of left k l (al .0) (allWords ls) hl j h i) (figure-of right k r (ar .0) (allWords rs) hr j h i),
-  figures-of left right (suc k) ls rs (al .1) (ar .1) (next-here left k l (al .0) (allWords ls) hl) (next-here right k r (ar .0) (allWords rs) hr),
+      figureIn (rowKindOf (refusal-is left k l (al .0) (rowsWords ls) hl i) (refusal-is right k r (ar .0) (rowsWords rs) hr i))
+      (figure-of left k l (al .0) (rowsWords ls) hl j h i) (figure-of right k r (ar .0) (rowsWords rs) hr j h i),
+  figures-of left right (suc k) ls rs (al .1) (ar .1) (next-here left k l (al .0) (rowsWords ls) hl) (next-here right k r (ar .0) (rowsWords rs) hr),
 )
 
 pub compares-rows : ComparesRows
@@ -230,12 +233,12 @@ compares-rows ls rs al ar same few run fits =
     let n = length ls in
     let sl : n < 2 ^ 64 = omega arith in
     let sr : length rs < 2 ^ 64 = omega arith in
-    let cl : rowCount left ≡ n = count-here n (allWords ls) sl in
-    let cr : rowCount right ≡ length rs = count-here (length rs) (allWords rs) sr in
-    let soundL = exactly n (allWords ls) sl few (all-words ls al) in
-    let soundR = exactly (length rs) (allWords rs) sr (omega arith) (all-words rs ar) in
-    let restL = rest-here n (allWords ls) sl (all-below ls al) in
-    let restR = rest-here (length rs) (allWords rs) sr (all-below rs ar) in
+    let cl : rowCount left ≡ n = count-here n (rowsWords ls) sl in
+    let cr : rowCount right ≡ length rs = count-here (length rs) (rowsWords rs) sr in
+    let soundL = exactly n (rowsWords ls) sl few (all-words ls al) in
+    let soundR = exactly (length rs) (rowsWords rs) sr (omega arith) (all-words rs ar) in
+    let restL = rest-here n (rowsWords ls) sl (below-all ls al) in
+    let restR = rest-here (length rs) (rowsWords rs) sr (below-all rs ar) in
     let e = refuses-in-order left right (length run) .else-compared soundL soundR (cl ∙ same ∙ sym cr) (omega (arith, cl)) in
     let told : rowsTold left right n ≡ allBetween ls rs =
     rows-from left right n ∙ each left right 0 ls rs al ar same restL restR

@@ -7,6 +7,7 @@ use Prim.Native.Nat.{ℕ, suc, _+_, _*_, _/_, _≤_, _<_, _^_}
 use lib.ListN.{length, drop, getD}
 use Rattle.files_words.specs.Bytes.{wordAt, asBytes, Below}
 use Rattle.files_sections.specs.declared.checks.Check.the-variants.{Sound, Fault}
+use Rattle.files_sections.specs.Records.{All, allWords}
 use Rattle.files_sections.specs.ResultLayout.{resultEdition, rowFigures, figuresOfRow}
 use Rattle.files_told.specs.declared.told.RowKind.{RowKind}
 use Rattle.files_told.specs.declared.told.RowKind.the-variants as kind
@@ -129,16 +130,11 @@ pub record IsRow (r : Row) : Type 0 where
   pub are-words : Below (2 ^ 64) (wordsIn r)
 
 abbrev pub AreRows : List Row → Type 0
-AreRows [] = Unit {0}
-AreRows (r ∷ rs) = IsRow r × AreRows rs
-
-abbrev pub allWords : List Row → List ℕ
-allWords [] = []
-allWords (r ∷ rs) = wordsIn r ++ allWords rs
+AreRows rs = All IsRow rs
 
 -- "edition 1, the request count, then per request 11 words".
 abbrev pub fileOf : List Row → List ℕ
-fileOf rs = asBytes (resultEdition ∷ length rs ∷ allWords rs)
+fileOf rs = asBytes (resultEdition ∷ length rs ∷ allWords wordsIn rs)
 
 -- Two rows: what they are, then each figure; points are not looked at.
 abbrev pub figuresBetween : RowKind → (left right : List ℕ) → List ℕ
