@@ -14,7 +14,7 @@ use Rattle.files_compare.specs.Compare.{resultsCheck, rowCount}
 use Rattle.files_compare.proofs.RowsLaws.{exactly, count-here, refused-file-is-25}
 use Rattle.files_results.specs.Results.{Accepted, rowsOf, resultBy, resultFile}
 use Rattle.files_results.specs.Own.{OwnComparable}
-use Rattle.files_results.proofs.RowKind.{rows-length}
+use Rattle.files_results.proofs.Rows.{rows-length}
 
 by-reading : (file : List ℕ) {reading : Reading} → readingOf file ≡ reading → resultFile file ≡ asBytes (resultBy file reading)
 unfolding resultFile
