@@ -58,14 +58,9 @@ module _ (left right : List ℕ) where
   at-last k j row n d e p q r = same-distance row n d e q (sym (λ i. figureAt left right (p .0 i) (p .1 i)) ∙ r)
 
   module _ (row n : ℕ) (here : n < figuresOfRow) where
-    -- A figure without a distance changes nothing.
-    stays : (l : Largest) → ((d : ℕ) → Has row n d → ⊥) → FirstLargest left right row n l → FirstLargest left right row (suc n) l
-    stays largest.Nowhere none f = λ k j e h before q. by k j e h q (last-or-before k j row n before)
-      where
-        by : (k j e : ℕ) → j < figuresOfRow → Has k j e → Earlier k j row n ⊎ ((k ≡ row) × (j ≡ n)) → ⊥
-        by k j e h q (inl b) = f k j e h b q
-        by k j e h q (inr p) = none e (sym (λ i. figureAt left right (p .0 i) (p .1 i)) ∙ q)
-    stays (largest.At r word d) none f = (
+    -- What was the first largest stays so where the next figure has no larger distance.
+    kept : (r word most : ℕ) → FirstLargest left right row n (largest.At r word most) → ((e : ℕ) → Has row n e → e ≤ most) → FirstLargest left right row (suc n) (largest.At r word most)
+    kept r word most f no-larger = (
       f .0,
       (
         f .1 .0,
@@ -79,14 +74,23 @@ module _ (left right : List ℕ) where
       ),
     )
       where
-        by : (k j e : ℕ) → j < figuresOfRow → Has k j e → Earlier k j row n ⊎ ((k ≡ row) × (j ≡ n)) → e ≤ d
+        by : (k j e : ℕ) → j < figuresOfRow → Has k j e → Earlier k j row n ⊎ ((k ≡ row) × (j ≡ n)) → e ≤ most
         by k j e h q (inl b) = f .1 .1 .none-larger k j e h b q
-        by k j e h q (inr p) = absurd (none e (sym (λ i. figureAt left right (p .0 i) (p .1 i)) ∙ q))
+        by k j e h q (inr p) = no-larger e (sym (λ i. figureAt left right (p .0 i) (p .1 i)) ∙ q)
 
-    -- A distance: the first of all, or larger than those before it, or not.
+    -- A figure without a distance changes nothing.
+    stays : (l : Largest) → ((d : ℕ) → Has row n d → ⊥) → FirstLargest left right row n l → FirstLargest left right row (suc n) l
+    stays largest.Nowhere none f = λ k j e h before q. by k j e h q (last-or-before k j row n before)
+      where
+        by : (k j e : ℕ) → j < figuresOfRow → Has k j e → Earlier k j row n ⊎ ((k ≡ row) × (j ≡ n)) → ⊥
+        by k j e h q (inl b) = f k j e h b q
+        by k j e h q (inr p) = none e (sym (λ i. figureAt left right (p .0 i) (p .1 i)) ∙ q)
+    stays (largest.At r word d) none f = kept r word d f (λ e q. absurd (none e q))
+
+    -- A distance: it takes the place where all before it are smaller; the first of all, or larger than those before it, or not.
     module _ (d : ℕ) (its : Has row n d) where
-      as-first : FirstLargest left right row n largest.Nowhere → FirstLargest left right row (suc n) (largest.At row (rowFigures + n) d)
-      as-first f = (
+      taken : ((k j e : ℕ) → j < figuresOfRow → Earlier k j row n → Has k j e → e < d) → FirstLargest left right row (suc n) (largest.At row (rowFigures + n) d)
+      taken smaller = (
         n,
         (
           refl,
@@ -95,60 +99,22 @@ module _ (left right : List ℕ) where
             a-figure = here;
             is-its = its;
             none-larger = λ k j e h before q. by k j e h q (last-or-before k j row n before);
-            all-smaller = λ k j e h before q. absurd (f k j e h before q);
+            all-smaller = smaller;
           },
         ),
       )
         where
           by : (k j e : ℕ) → j < figuresOfRow → Has k j e → Earlier k j row n ⊎ ((k ≡ row) × (j ≡ n)) → e ≤ d
-          by k j e h q (inl b) = absurd (f k j e h b q)
+          by k j e h q (inl b) = omega (arith, smaller k j e h b q)
           by k j e h q (inr p) = omega (arith, at-last k j row n d e p its q)
 
       module _ (r word most : ℕ) (f : FirstLargest left right row n (largest.At r word most)) where
-        as-larger : most < d → FirstLargest left right row (suc n) (largest.At row (rowFigures + n) d)
-        as-larger l = (
-          n,
-          (
-            refl,
-            record {
-              there = itself row n;
-              a-figure = here;
-              is-its = its;
-              none-larger = λ k j e h before q. by k j e h q (last-or-before k j row n before);
-              all-smaller = λ k j e h before q. omega (arith, l, f .1 .1 .none-larger k j e h before q);
-            },
-          ),
-        )
-          where
-            by : (k j e : ℕ) → j < figuresOfRow → Has k j e → Earlier k j row n ⊎ ((k ≡ row) × (j ≡ n)) → e ≤ d
-            by k j e h q (inl b) = omega (arith, l, f .1 .1 .none-larger k j e h b q)
-            by k j e h q (inr p) = omega (arith, at-last k j row n d e p its q)
-
-        as-before : d ≤ most → FirstLargest left right row (suc n) (largest.At r word most)
-        as-before l = (
-          f .0,
-          (
-            f .1 .0,
-            record {
-              there = in-front r (f .0) row n (f .1 .1 .there);
-              a-figure = f .1 .1 .a-figure;
-              is-its = f .1 .1 .is-its;
-              none-larger = λ k j e h before q. by k j e h q (last-or-before k j row n before);
-              all-smaller = f .1 .1 .all-smaller;
-            },
-          ),
-        )
-          where
-            by : (k j e : ℕ) → j < figuresOfRow → Has k j e → Earlier k j row n ⊎ ((k ≡ row) × (j ≡ n)) → e ≤ most
-            by k j e h q (inl b) = f .1 .1 .none-larger k j e h b q
-            by k j e h q (inr p) = omega (arith, l, at-last k j row n d e p its q)
-
         by-size : (b : Bool) → ltb most d ≡ b → FirstLargest left right row (suc n) (pick b (largest.At row (rowFigures + n) d) (largest.At r word most))
-        by-size true e = as-larger (ltb-true most d e)
-        by-size false e = as-before (ltb-false most d e)
+        by-size true t = taken (λ k j e h before q. omega (arith, ltb-true most d t, f .1 .1 .none-larger k j e h before q))
+        by-size false t = kept r word most f (λ e q. omega (arith, ltb-false most d t, same-distance row n d e its q))
 
       with-distance : (l : Largest) → FirstLargest left right row n l → FirstLargest left right row (suc n) (firstLarger l row (rowFigures + n) d)
-      with-distance largest.Nowhere f = as-first f
+      with-distance largest.Nowhere f = taken (λ k j e h before q. absurd (f k j e h before q))
       with-distance (largest.At r word most) f = by-size r word most f (ltb most d) refl
 
     no-distance : {f : Figure} → figureAt left right row n ≡ f → ((d : ℕ) → f ≡ figure.Distance d → ⊥) → (d : ℕ) → Has row n d → ⊥

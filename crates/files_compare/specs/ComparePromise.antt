@@ -34,13 +34,16 @@ SoundSo = (file : List ℕ) → resultsCheck file ≡ Sound → SoundFile file
 abbrev pub RefusedFileIs25 : Type 0
 RefusedFileIs25 = (number : ℕ) → resultsCheck (asBytes (1 ∷ 0 ∷ number ∷ [])) ≡ Fault 25 16
 
--- A file that is refused: the fault, and where it is. 21 is at the first word that is not whole, 25 at the first byte left.
+-- A file that is refused: the first fault on the way, and where it is; what stands before it is right. 21 is at the first word that is not whole, 25 at the first byte left.
+abbrev pub EditionRight : List ℕ → Type 0
+EditionRight file = 8 ≤ length file → wordAt file 0 ≡ 1
+
 abbrev pub FaultIn : List ℕ → (number place : ℕ) → Type 0
 FaultIn file number place =
-    ((number ≡ 21) × (place ≡ 8 * (length file / 8)) × (length file < 16 + 88 * rowCount file))
+    ((number ≡ 21) × (place ≡ 8 * (length file / 8)) × EditionRight file × (rowCount file ≤ 1500) × (length file < 16 + 88 * rowCount file))
     ⊎ (((number ≡ 22) × (place ≡ 0) × (8 ≤ length file) × (wordAt file 0 ≡ 1 → ⊥))
-    ⊎ (((number ≡ 23) × (place ≡ 8) × (16 ≤ length file) × (1500 < rowCount file))
-    ⊎ ((number ≡ 25) × (place ≡ 16 + 88 * rowCount file) × (place < length file))))
+    ⊎ (((number ≡ 23) × (place ≡ 8) × EditionRight file × (16 ≤ length file) × (1500 < rowCount file))
+    ⊎ ((number ≡ 25) × (place ≡ 16 + 88 * rowCount file) × EditionRight file × (rowCount file ≤ 1500) × (place < length file))))
 
 abbrev pub FaultSo : Type 0
 FaultSo = (file : List ℕ) (number place : ℕ) → resultsCheck file ≡ Fault number place → FaultIn file number place
