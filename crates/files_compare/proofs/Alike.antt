@@ -45,7 +45,6 @@ same-figure w = by (bothFinite w w)
     by false = inr (inl (ap (λ (b : Bool). pick b figure.EqualBits figure.UnequalBits) (eq-eqb w w refl)))
 
 in-same : (r : RowKind) (w : ℕ) → Unmoved (figureIn r w w)
-unfolding figureIn
 in-same kind.Answered w = same-figure w
 in-same kind.LeftRefused w = inr (inr refl)
 in-same kind.RightRefused w = inr (inr refl)
@@ -93,7 +92,6 @@ figure-exchanged v w =
     λ i. pick (and-sym (isFinite (ofBits binary64 w)) (isFinite (ofBits binary64 v)) i) (figure.Distance (symmetric w v i)) (pick (eqb-sym w v i) figure.EqualBits figure.UnequalBits)
 
 in-exchanged : (r : RowKind) (v w : ℕ) → figureIn (exchanged r) w v ≡ figureIn r v w
-unfolding figureIn
 in-exchanged kind.Answered v w = figure-exchanged v w
 in-exchanged kind.LeftRefused v w = refl
 in-exchanged kind.RightRefused v w = refl

@@ -121,7 +121,6 @@ module _ (left right : List ℕ) where
     no-distance e none d q = none d (sym e ∙ q)
 
     one-more : (l : Largest) → FirstLargest left right row n l → FirstLargest left right row (suc n) (largestWith l row (rowFigures + n) (figureAt left right row n))
-    unfolding largestWith
     one-more l f = by (figureAt left right row n) refl
       where
         by : (g : Figure) → figureAt left right row n ≡ g → FirstLargest left right row (suc n) (largestWith l row (rowFigures + n) g)

@@ -13,7 +13,6 @@ use Rattle.files_told.specs.Told.{figureWords}
 use Rattle.files_compare.specs.Compare.{figureOn, figuresTold, rowTold, rowAt, rowsTold, toldWords}
 
 figure-length : (f : Figure) → length (figureWords f) ≡ 2
-unfolding figureWords
 figure-length (figure.Distance d) = refl
 figure-length figure.EqualBits = refl
 figure-length figure.UnequalBits = refl

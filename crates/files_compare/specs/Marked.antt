@@ -7,7 +7,7 @@ use lib.ListN.{length, take, replicate}
 use Rattle.bits.specs.Words.{infinity, minusZero}
 use Rattle.files_words.specs.Bytes.{numberOf, bytesOf, asBytes, words, wordsFrom, wordAt}
 use Rattle.files_sections.specs.Checks.{walk, countCheck, countedCheck, editionCheck, filledCheck}
-use Rattle.files_told.specs.Told.{rowKindOf, rowKindWord, figureOf, figureIn, figureWords, largestWith, comparisonWords}
+use Rattle.files_told.specs.Told.{rowKindOf, figureOf, comparisonWords}
 use Rattle.files_compare.specs.Compare.{resultsCheck, figuresTold, rowAt, rowsTold, largestInRow, largestOf, comparisonOf, compareWords, runAfter}
 
 -- ---- Words.
@@ -124,7 +124,7 @@ file count rows = asBytes (1 ∷ count ∷ rows)
 
 -- Each pair of rows of the table, in one pair of files; the word behind those that are told stays.
 pub marked : runAfter (file (length table) (leftRows table)) (file (length table) (rightRows table)) (replicate (19 * length table) 9 ++ (7 ∷ [])) ≡ allTold table ++ (7 ∷ [])
-unfolding runAfter comparisonOf resultsCheck editionCheck filledCheck countedCheck countCheck walk words wordsFrom wordAt numberOf bytesOf asBytes rowsTold rowAt figuresTold largestOf largestInRow largestWith rowKindOf rowKindWord figureIn figureOf figureWords ofBits
+unfolding runAfter comparisonOf resultsCheck editionCheck filledCheck countedCheck countCheck walk words wordsFrom wordAt numberOf bytesOf asBytes rowsTold rowAt figuresTold largestOf largestInRow rowKindOf figureOf ofBits
 marked = refl
 
 -- ---- Files: their bytes, the words lent for the rows, and the seven words that are answered.
@@ -190,5 +190,5 @@ files =
     ∷ []
 
 pub marked-files : map (λ (c : FileCase). compareWords (c .left) (c .right) (replicate (c .room) 9)) files ≡ map (λ (c : FileCase). c .answer) files
-unfolding comparisonWords comparisonOf resultsCheck editionCheck filledCheck countedCheck countCheck walk words wordsFrom wordAt numberOf bytesOf asBytes rowAt largestOf largestInRow largestWith rowKindOf figureIn figureOf ofBits
+unfolding comparisonWords comparisonOf resultsCheck editionCheck filledCheck countedCheck countCheck walk words wordsFrom wordAt numberOf bytesOf asBytes rowAt largestOf largestInRow rowKindOf figureOf ofBits
 marked-files = refl

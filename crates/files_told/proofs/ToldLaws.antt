@@ -8,7 +8,7 @@ use lib.Ieee.{binary64, ofBits}
 use Rattle.bits.specs.Choice.{pick}
 use Rattle.bits.specs.Arithmetic.{isFinite}
 use Rattle.files_told.specs.Distance.{distanceOf, Finite}
-use Rattle.files_told.specs.Told.{rowKindOf, bothFinite, figureOf, figureIn}
+use Rattle.files_told.specs.Told.{rowKindOf, bothFinite, figureOf}
 use Rattle.files_told.specs.declared.told.RowKind.the-variants as kind
 use Rattle.files_told.specs.declared.told.Figure.the-variants as figure
 use Rattle.files_told.specs.ToldPromise.{FiguresSo, RowsSo, RefusedUntold}
@@ -47,7 +47,6 @@ rows-so v w = record {
 }
 
 pub refused-untold : RefusedUntold
-unfolding figureIn
 refused-untold kind.Answered v w n = absurd (n refl)
 refused-untold kind.LeftRefused v w n = refl
 refused-untold kind.RightRefused v w n = refl

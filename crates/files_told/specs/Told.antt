@@ -28,7 +28,7 @@ rowKindOf left right =
     (pick (eqb right 0) kind.LeftRefused
     (pick (eqb left right) kind.RefusedAlike kind.RefusedUnlike))
 
-unfoldable pub rowKindWord : RowKind → ℕ
+abbrev pub rowKindWord : RowKind → ℕ
 rowKindWord kind.Answered = 0
 rowKindWord kind.LeftRefused = 1
 rowKindWord kind.RightRefused = 2
@@ -46,7 +46,7 @@ figureOf left right =
     (pick (eqb left right) figure.EqualBits figure.UnequalBits)
 
 -- Of rows that are refused on a side nothing is told of a figure.
-unfoldable pub figureIn : RowKind → (left right : ℕ) → Figure
+abbrev pub figureIn : RowKind → (left right : ℕ) → Figure
 figureIn kind.Answered left right = figureOf left right
 figureIn kind.LeftRefused left right = figure.Untold
 figureIn kind.RightRefused left right = figure.Untold
@@ -54,7 +54,7 @@ figureIn kind.RefusedAlike left right = figure.Untold
 figureIn kind.RefusedUnlike left right = figure.Untold
 
 -- Its kind and its distance, which is 0 but for kind 0.
-unfoldable pub figureWords : Figure → List ℕ
+abbrev pub figureWords : Figure → List ℕ
 figureWords (figure.Distance d) = 0 ∷ d ∷ []
 figureWords figure.EqualBits = 1 ∷ 0 ∷ []
 figureWords figure.UnequalBits = 2 ∷ 0 ∷ []
@@ -66,7 +66,7 @@ abbrev pub firstLarger : Largest → (row word d : ℕ) → Largest
 firstLarger largest.Nowhere row word d = largest.At row word d
 firstLarger (largest.At r w most) row word d = pick (ltb most d) (largest.At row word d) (largest.At r w most)
 
-unfoldable pub largestWith : Largest → (row word : ℕ) → Figure → Largest
+abbrev pub largestWith : Largest → (row word : ℕ) → Figure → Largest
 largestWith known row word (figure.Distance d) = firstLarger known row word d
 largestWith known row word figure.EqualBits = known
 largestWith known row word figure.UnequalBits = known

@@ -15,7 +15,6 @@ use Rattle.files_compare.proofs.put_figure.Tie as tie
 
 -- What is told of a figure is two words.
 two : (f : Figure) → figureWords f ≡ getD (figureWords f) 0 0 ∷ getD (figureWords f) 1 0 ∷ []
-unfolding figureWords
 two (figure.Distance d) = refl
 two figure.EqualBits = refl
 two figure.UnequalBits = refl
@@ -38,7 +37,9 @@ slice-write-run-2 : tie.Need-slice-write-run-2
 slice-write-run-2 c = simp length-set (omega (arith, c .before .before .pre))
 
 returns : tie.Need-returns
-returns c = told _ _ _ (c .before .before .pre) (c .figure-words .ensures)
+returns c =
+    let a = c .before .before .args in
+    told (a .run .now) (a .at) (a .figure) (c .before .before .pre) (c .figure-words .ensures)
 
 pub put-figure-spec : {M : Type 1} → statement M
 put-figure-spec =
