@@ -1,8 +1,9 @@
 # make run      the command on an element file, and its results in a table: make run ELEMENTS=FILE
 # make state    one state of an orbit: make state STATE='MU X Y Z VX VY VZ TAU'
-# make check    all that must hold; ends in rt ci, whose last line is 'N passed, 0 failed'
+# make check    all that must hold; the last line is rt's own 'N passed, 0 failed'
 # make test     the C tests alone
-# make wrong    the second wrong programs of each promise, which the prover has to refuse, beside those of the gate
+# make wrong    the wrong programs of tests/wrong: all, or those of crates and of what uses them: make wrong files_compare bits
+# make tables   writes anew what pages have from elsewhere: the refusals in words, the list of wrong programs
 # make fuzz     the library against the second program, by families and guided, as long as told: make fuzz N=1000000 SEED=7
 # make bench    instructions per call (and time on x86-64) beside plain C of the same rules: see bench/README.md
 # make accuracy how far positions are from the exact ones, before T-04 and after: see docs/ACCURACY.md
@@ -12,35 +13,16 @@
 # make install  what a station needs, under PREFIX: make install PREFIX=/usr/local DESTDIR=; make uninstall takes it away
 # make clean    remove build/ and rt's target/
 
-X86 = sh tests/machine.sh
+X86 = sh tests/machine/x86.sh
 STRICT = -std=c99 -Wall -Wextra -pedantic -Werror -O2 -ffp-contract=off
-TESTS = $(COMPARISONS) build/tests/second/selftest $(GUIDED) build/tests/root build/tests/cases build/tests/case_files build/tests/case_rows build/tests/case_compare
-
-# The library against the second program: states and partials, then files, then the summary, then another station's rows, then two stations' results.
-COMPARISONS = build/tests/propagate build/tests/files build/tests/summary build/tests/rows build/tests/compare
-
-# The same on inputs that find their own way, by those before them.
-GUIDED = build/tests/guided
-
-# What make fuzz runs, for how many inputs each, of which seed, and, in the comparisons, from which number on;
-# or one INPUT that the guided program told.
-FUZZ = $(if $(INPUT),,$(COMPARISONS)) $(GUIDED)
-N = 1000000
-SEED := $(shell date +%s)
-FIRST = 0
-INPUT =
-
-# The table's rows.
-BENCH = root propagate partials years results check compare summary append withdraw
-BESIDE = bench/plain.c bench/plain_root.c bench/plain_search.c bench/plain_results.c bench/plain_check.c bench/plain_compare.c bench/plain_summary.c bench/newton.c bench/orbits.c bench/elements.c bench/roster.c bench/empty.c bench/row.c
 
 # rt proves so many crates, or tries so many wrong programs, at a time; with fewer processors than that, none waits for the longest of a pair.
 export RT_JOBS = 4
 
 # One step at a time, in the order written: what is cheap to find wrong comes before what takes minutes.
 .NOTPARALLEL:
-.PHONY: run state check test wrong fuzz bench accuracy program command lib install install-files uninstall clean
-.PHONY: kit layout map promises proved prefix machine header edition readme refusals selfcheck facts installed tried commanded sanitized
+.PHONY: run state check test wrong tables fuzz bench accuracy program command lib install install-files uninstall clean
+.PHONY: kit layout map promises made verdict prefix machine header edition readme refusals selfcheck facts installed tried commanded sanitized
 
 # What make run shows.
 ELEMENTS = examples/orbits.elements
@@ -50,26 +32,205 @@ STATE = 398600.4418 1131.340 -2282.343 6672.423 -5.64305 4.30333 2.42879 600
 
 # A status of 1 tells of refused requests, which the table has too.
 run: command
-	@$(X86) run build/kelubashi results $(ELEMENTS) -o build/results || [ $$? -eq 1 ]
-	@$(X86) run build/kelubashi show $(ELEMENTS) build/results || [ $$? -eq 1 ]
+	@$(X86) run build/kelubashi results '$(ELEMENTS)' -o build/results || [ $$? -eq 1 ]
+	@$(X86) run build/kelubashi show '$(ELEMENTS)' build/results || [ $$? -eq 1 ]
 
 state: command
 	@$(X86) run build/kelubashi state $(STATE)
 
-check: layout map promises test
-	@rt ci
+# ---- The C tests, by what the folders hold: a .c file in a room is a program, and what stands in folders beside it are parts.
 
-test: machine header proved program edition readme refusals selfcheck facts installed build/host/example tried commanded sanitized $(TESTS)
-	@sh tests/run.sh $(TESTS)
+parts = $(patsubst %.c,build/objects/%.o,$(wildcard $(addsuffix /*.c,$(1))))
+SECOND = $(call parts,tests/second)
+TRACED = $(SECOND:build/objects/%=build/traced/%)
+SELFTEST = build/tests/second/selftest
+HEADERS := $(shell find include host command tests -name '*.h')
+
+# The library against the second program: states and partials, then files, then the summary, then another station's rows, then two
+# stations' results; the same on inputs that find their own way, by those before them; and the root against the processor's.
+COMPARISONS = $(patsubst %,build/tests/compared/%,states files summary rows compare)
+GUIDED = build/tests/compared/guided
+CASES = $(patsubst %.c,build/%,$(wildcard tests/cases/*.c))
+
+# The longest first.
+TESTS = $(COMPARISONS) $(SELFTEST) $(GUIDED) build/tests/compared/root $(CASES)
+
+# ---- What must hold.
+
+# rt ci proves everything once, from nothing; what the C tests link is made of that. Its last line is held back until they have passed.
+check: layout map promises made header verdict test
+	@cat build/verdict
+
+verdict: kit
+	@sh tests/tree/verdict.sh
+
+test: machine header lib program edition readme refusals selfcheck facts installed build/host/example tried commanded sanitized $(TESTS)
+	@sh tests/machine/side_by_side.sh $(TESTS)
+
+# Words behind wrong are crates.
+ifeq ($(firstword $(MAKECMDGOALS)),wrong)
+CRATES = $(wordlist 2,$(words $(MAKECMDGOALS)),$(MAKECMDGOALS))
+.PHONY: $(CRATES)
+$(CRATES): ; @:
+endif
 
 wrong: kit
-	@sh tests/wrong.sh
+	@sh tests/tree/wrong.sh $(CRATES)
+
+tables: machine
+	@sh tests/tree/tables.sh write
+
+kit:
+	@command -v rt >/dev/null || { echo 'rt is not found: put the Rattle kit on this machine and its rt on PATH'; exit 1; }
+
+machine:
+	@$(X86) ready
+
+# ---- What is asked of the tree.
+
+layout: kit
+	@rt fmt --check || { echo 'layout: run rt fmt, and look at what it changed'; exit 1; }
+	@sh tests/tree/columns.sh
+
+map:
+	@sh tests/tree/map.sh
+
+promises:
+	@sh tests/tree/promises.sh
+
+made: machine
+	@sh tests/tree/tables.sh
+
+readme: machine lib
+	@sh tests/tree/readme.sh
+
+refusals: machine
+	@sh tests/tree/refusals.sh
+
+installed: machine lib program command build/tests/command/second_results build/tests/command/second_rows
+	@sh tests/tree/install.sh
+
+# ---- The interface.
+
+header:
+	@sh tests/interface/header.sh
+
+edition: machine lib
+	@sh tests/interface/edition.sh
+
+facts: machine lib program build/tests/interface/facts build/tests/interface/stack
+	@sh tests/interface/facts.sh
+
+selfcheck: machine lib command
+	@sh tests/interface/selfcheck.sh
+
+# ---- The command and the program.
+
+tried: machine program command build/tests/command/second_results
+	@sh tests/command/propagate.sh
+
+# On the machine's own processor, with the second program for a library: sanitizers and valgrind.
+sanitized: build/tests/command/second_results build/tests/command/second_rows
+	@sh tests/command/sanitized.sh
+
+commanded: machine command build/tests/command/faulty build/tests/command/second_results build/tests/command/second_rows
+	@sh tests/command/suites.sh 'over the library' '$(X86) run build/kelubashi' '$(X86) run build/tests/command/faulty'
+
+# ---- The library, the program and the command.
+
+# What an archive or a program is proved from: its crate, the crates that it uses, and theirs.
+sources = $(shell find crates.txt $(addprefix crates/,$(shell sh tests/tree/crates.sh below $(1))) ! -path '*/must-fail*')
+
+# By the sources' times, and then by rt, which knows by content what target/ has proved already. What the library
+# rests on comes first, since rt proves that side by side, and for an archive one crate after another. rt ci removes
+# target/, so a copy stays in build/ for the hosts.
+lib: kit build/libkelubashi.a
+build/libkelubashi.a: $(call sources,kelubashi)
+	@sh tests/machine/prove.sh library $$(sh tests/tree/crates.sh below kelubashi | grep -vx kelubashi)
+	@echo 'library: build/libkelubashi.a is made of kelubashi, which is proved with it'
+	@rt staticlib kelubashi >build/library.log 2>&1 || { cut -c 1-1500 build/library.log; exit 1; }
+	@cp target/staticlib/libkelubashi.a build/
+
+program: kit build/propagate
+build/propagate: $(call sources,propagate)
+	@sh tests/machine/prove.sh program $$(sh tests/tree/crates.sh below propagate)
+	@cp target/bin/propagate build/
+
+command: build/kelubashi
+
+# The command: plain C99 and POSIX, with no warning of conversions either.
+COMMAND = $(patsubst %.c,build/objects/%.o,$(wildcard command/*.c command/parts/*.c) host/kelubashi_selfcheck.c)
+build/objects/command/%.o: STRICT += -Wconversion -D_XOPEN_SOURCE=700
+build/host/% build/objects/host/%: STRICT += -Wconversion
+
+build/kelubashi: $(COMMAND) build/libkelubashi.a | machine
+	@$(X86) compile $(STRICT) -o $@ $(COMMAND) build/libkelubashi.a
+
+# ---- The C tests. Of an archive the linker takes what a program uses.
+
+build/tests/compared.a: $(call parts,tests/compared/*) build/objects/tests/second/selftest/formulas.o
+build/tests/cases.a: $(call parts,tests/cases/shared)
+build/tests/interface.a: $(call parts,tests/interface/shared)
+build/tests/second.a: $(SECOND)
+build/tests/traced.a: $(TRACED)
+
+$(COMPARISONS) build/tests/compared/root: build/tests/compared.a build/tests/second.a
+$(GUIDED): build/tests/compared.a build/tests/traced.a
+$(CASES): build/tests/cases.a
+build/tests/interface/facts build/tests/interface/stack: build/tests/interface.a
+build/tests/interface/facts: STRICT += -pthread
+build/host/example: build/objects/host/kelubashi_selfcheck.o
+
+# The second program knows nothing of the library, and what asks it alone links without it.
+$(SELFTEST): $(call parts,tests/second/selftest) build/tests/second.a | machine
+	@mkdir -p $(@D)
+	@$(X86) compile $(STRICT) -o $@ $^ -lm
+
+build/tests/command/second_results build/tests/command/second_rows: build/%: build/objects/%.o build/tests/compared.a build/tests/second.a | machine
+	@mkdir -p $(@D)
+	@$(X86) compile $(STRICT) -o $@ $^ -lm
+
+# The command with faults of the machine before the system's calls, and before three of the library's.
+build/tests/command/faulty: $(COMMAND) build/objects/tests/command/faults.o build/libkelubashi.a tests/command/wrapped | machine
+	@mkdir -p $(@D)
+	@$(X86) compile $(STRICT) @tests/command/wrapped -o $@ $(COMMAND) build/objects/tests/command/faults.o build/libkelubashi.a
+
+build/%: %.c $(HEADERS) build/libkelubashi.a | machine
+	@mkdir -p $(@D)
+	@$(X86) compile $(STRICT) -Iinclude -Itests -o $@ $< $(filter %.o,$^) $(filter build/tests/%.a,$^) build/libkelubashi.a -lm
+
+build/tests/%.a:
+	@mkdir -p $(@D)
+	@rm -f $@
+	@$(X86) archive $@ $^
+
+# Once more, with a call in every block that tells the guided program where it is.
+build/traced/%.o: %.c $(HEADERS) | machine
+	@mkdir -p $(@D)
+	@$(X86) compile $(STRICT) -Itests -fsanitize-coverage=trace-pc -c -o $@ $<
+
+build/objects/%.o: %.c $(HEADERS) | machine
+	@mkdir -p $(@D)
+	@$(X86) compile $(STRICT) -Iinclude -Itests -c -o $@ $<
+
+# What make fuzz runs, for how many inputs each, of which seed, and, in the comparisons, from which number on;
+# or one INPUT that the guided program told.
+FUZZ = $(if $(INPUT),,$(COMPARISONS)) $(GUIDED)
+N = 1000000
+SEED := $(shell date +%s)
+FIRST = 0
+INPUT =
 
 fuzz: machine $(FUZZ)
 	@echo 'fuzz: $(if $(INPUT),$(INPUT),$(N) inputs of seed $(SEED) each, from number $(FIRST) on), to: $(strip $(FUZZ))'
 	@for test in $(filter-out $(GUIDED),$(FUZZ)); do $(X86) run "$$test" $(N) $(SEED) $(FIRST) || exit 1; done
 	@for test in $(filter $(GUIDED),$(FUZZ)); do $(X86) run "$$test" $(or $(INPUT),$(N) $(SEED)) || exit 1; done
-	@$(if $(INPUT)$(filter-out $(COMPARISONS) $(GUIDED),$(FUZZ)),,sh tests/sanitize.sh fuzz $(N) $(SEED) $(FIRST))
+	@$(if $(INPUT)$(filter-out $(COMPARISONS) $(GUIDED),$(FUZZ)),,sh tests/command/sanitized.sh fuzz $(N) $(SEED) $(FIRST))
+
+# ---- The benchmark: its table's rows, and what stands beside them.
+
+BENCH = root propagate partials years results check compare summary append withdraw
+BESIDE = $(filter-out bench/row_% bench/accuracy.c bench/count.c,$(wildcard bench/*.c))
 
 bench: machine $(BENCH:%=build/bench/%)
 	@sh bench/run.sh $(BENCH)
@@ -77,29 +238,15 @@ bench: machine $(BENCH:%=build/bench/%)
 accuracy: machine build/bench/accuracy
 	@sh bench/accuracy.sh
 
-# What the library and the program rest on, at once: rt then proves side by side what does not depend on one another.
-proved: kit
-	@mkdir -p build
-	@echo 'proved: rt proves what the library and the program rest on, and the program'
-	@rt check states files files_summary files_check files_compare propagate >build/proved.log 2>&1 || { cut -c 1-1500 build/proved.log; exit 1; }
+build/bench/%: bench/row_%.c $(BESIDE) $(wildcard bench/*.h) include/kelubashi.h build/libkelubashi.a | machine
+	@mkdir -p $(@D)
+	@$(X86) compile $(STRICT) -Iinclude -o $@ $< $(BESIDE) build/libkelubashi.a -lm
 
-# Always asked of rt, which alone knows by content what target/ has proved already. rt ci removes
-# target/ and proves all anew, so a copy stays in build/ for the hosts. What the library rests on comes
-# first, since rt proves that side by side, and for an archive one crate after another.
-lib: kit
-	@mkdir -p build
-	@echo 'library: rt proves what target/ does not have yet, then build/libkelubashi.a is written'
-	@{ rt check states files files_results files_summary files_check files_compare && rt staticlib kelubashi; } >build/library.log 2>&1 || { cut -c 1-1500 build/library.log; exit 1; }
-	@cp target/staticlib/libkelubashi.a build/
+build/bench/accuracy: bench/accuracy.c $(BESIDE) $(wildcard bench/*.h) include/kelubashi.h build/libkelubashi.a | machine
+	@mkdir -p $(@D)
+	@$(X86) compile $(STRICT) -Iinclude -o $@ $< $(BESIDE) build/libkelubashi.a -lm
 
-# As for the library: rt alone knows what is proved, and a copy stays in build/.
-program: kit
-	@mkdir -p build
-	@echo 'program: rt proves what target/ does not have yet, then build/propagate is written'
-	@rt check propagate >build/program.log 2>&1 || { cut -c 1-1500 build/program.log; exit 1; }
-	@cp target/bin/propagate build/
-
-command: build/kelubashi
+# ---- Installing.
 
 # Where the files go, and, for those who make packages, a folder that stands for the root. They go through
 # the environment, so that no character of a name means anything to the shell.
@@ -111,9 +258,10 @@ install-files uninstall: export INTO = $(DESTDIR)$(PREFIX)
 # What is installed, by folder, and the names that lead to the page of the calls.
 PROGRAMS = propagate kelubashi
 INTERFACE = kelubashi.h kelubashi_selfcheck.h
+HOST = kelubashi_selfcheck.c kelubashi_selfcheck_cases.h
 PAGES = $(notdir $(wildcard man/*))
-LINKED = $(patsubst %,kelubashi1_%.3,root propagate partials read write results check compare summary append withdraw) \
-	$(patsubst %,kelubashi_%.3,propagate partials refusal_text refusal_advice)
+CALLS = $(shell grep -o '^uint64_t kelubashi[0-9]*_[a-z_]*' include/kelubashi.h | cut -d ' ' -f 2)
+LINKED = $(CALLS:%=%.3) $(patsubst %,kelubashi_%.3,propagate partials refusal_text refusal_advice)
 FOLDERS = bin include lib/pkgconfig share/kelubashi share/man/man1 share/man/man3 share/man/man5
 
 install: lib program command install-files
@@ -127,14 +275,14 @@ install-files: prefix
 	install -m 644 build/libkelubashi.a "$$INTO/lib"
 	sed "s|@PREFIX@|$$PREFIX|" kelubashi.pc.in >"$$INTO/lib/pkgconfig/kelubashi.pc"
 	chmod 644 "$$INTO/lib/pkgconfig/kelubashi.pc"
-	install -m 644 host/kelubashi_selfcheck.c "$$INTO/share/kelubashi"
+	install -m 644 $(HOST:%=host/%) "$$INTO/share/kelubashi"
 	for page in $(PAGES); do install -m 644 man/$$page "$$INTO/share/man/man$${page##*.}" || exit 1; done
 	for name in $(LINKED); do ln -sf kelubashi.3 "$$INTO/share/man/man3/$$name" || exit 1; done
 
 # Takes away what install put down, and the one folder that is the project's own.
 uninstall: prefix
 	for name in $(PROGRAMS:%=bin/%) $(INTERFACE:%=include/%) lib/libkelubashi.a lib/pkgconfig/kelubashi.pc \
-		share/kelubashi/kelubashi_selfcheck.c $(LINKED:%=share/man/man3/%); do rm -f "$$INTO/$$name" || exit 1; done
+		$(HOST:%=share/kelubashi/%) $(LINKED:%=share/man/man3/%); do rm -f "$$INTO/$$name" || exit 1; done
 	for page in $(PAGES); do rm -f "$$INTO/share/man/man$${page##*.}/$$page" || exit 1; done
 	[ ! -d "$$INTO/share/kelubashi" ] || rmdir "$$INTO/share/kelubashi"
 
@@ -146,115 +294,3 @@ prefix:
 
 clean:
 	rm -rf build target
-
-kit:
-	@command -v rt >/dev/null || { echo 'rt is not found: put the Rattle kit on this machine and its rt on PATH'; exit 1; }
-
-layout: kit
-	@rt fmt --check || { echo 'layout: run rt fmt, and look at what it changed'; exit 1; }
-
-map:
-	@sh tests/map.sh
-
-promises:
-	@sh tests/promises.sh
-
-machine:
-	@$(X86) ready
-
-header:
-	@sh tests/header.sh
-
-edition: machine lib
-	@sh tests/edition.sh
-
-readme: machine lib
-	@sh tests/readme.sh
-
-refusals: machine lib
-	@sh tests/refusals.sh
-
-facts: machine lib program build/tests/facts build/tests/stack
-	@sh tests/facts.sh
-
-selfcheck: machine lib command
-	@sh tests/selfcheck.sh
-
-installed: machine lib program command build/tests/second_results build/tests/second_rows
-	@sh tests/install.sh
-
-tried: machine program command build/tests/second_results
-	@sh tests/program.sh
-
-# On the machine's own processor, with the second program for a library: sanitizers and valgrind.
-sanitized: build/tests/second_results build/tests/second_rows
-	@sh tests/sanitize.sh
-
-commanded: machine command build/tests/kelubashi_faulty build/tests/second_results build/tests/second_rows
-	@for script in tests/command.sh tests/command_rows.sh tests/command_compare.sh; do \
-		sh $$script 'over the library' 'sh tests/machine.sh run build/kelubashi' 'sh tests/machine.sh run build/tests/kelubashi_faulty' || exit 1; \
-	done
-
-SECOND = $(patsubst %,build/tests/second/%.o,root series revolutions search states walk files summary rows compare)
-TRACED = $(SECOND:build/tests/second/%=build/tests/traced/%)
-SELFTEST = $(patsubst %,build/tests/second/selftest%.o,_root _calls _search _revolutions _turns _orbits _files _summary _changes _refused _bad _rows _formulas _sentence _checked _anomaly _edges _row_file _steps _compare _two_files)
-HEADERS = $(wildcard include/*.h command/*.h command/parts/*.h tests/*.h tests/second/*.h)
-
-# The command: plain C99 and POSIX, with no warning of conversions either.
-COMMAND = $(patsubst %.c,build/%.o,$(wildcard command/*.c command/parts/*.c) host/kelubashi_selfcheck.c)
-build/command/%.o: STRICT += -Wconversion -D_XOPEN_SOURCE=700
-build/host/%: STRICT += -Wconversion
-
-build/kelubashi: $(COMMAND) machine lib
-	@$(X86) compile $(STRICT) -o $@ $(COMMAND) build/libkelubashi.a
-
-# The same, with faults of the machine before the system's calls, and before three of the library's.
-WRAPPED = $(patsubst %,-Wl$(comma)--wrap=%,rename fsync close fchmod write read kelubashi1_summary kelubashi1_check kelubashi1_compare)
-comma = ,
-build/tests/kelubashi_faulty: $(COMMAND) build/tests/command_faults.o machine lib
-	@$(X86) compile $(STRICT) $(WRAPPED) -o $@ $(COMMAND) build/tests/command_faults.o build/libkelubashi.a
-
-build/host/example: build/host/kelubashi_selfcheck.o
-build/tests/case_files build/tests/case_rows build/tests/case_compare: build/tests/expected.o
-build/tests/facts build/tests/stack: build/tests/one_row.o
-build/tests/facts: STRICT += -pthread
-ASK_STATES = $(patsubst %,build/tests/%.o,drive orbits aimed aimed_search aimed_revolutions inputs ask_state)
-ASK_FILES = $(patsubst %,build/tests/%.o,drive orbits sections damaged lent ask_file)
-build/tests/propagate: $(ASK_STATES) build/tests/aims.o $(SECOND)
-ASK_ROSTERS = $(patsubst %,build/tests/%.o,drive orbits records rosters roster_calls held entries rules_summary aims_summary ask_summary)
-ASK_ROWS = $(patsubst %,build/tests/%.o,drive orbits aimed aimed_search aimed_revolutions inputs sections lent other_search made_rows row_files rules_rows aims_rows ask_rows second/selftest_formulas)
-ASK_PAIRS = $(patsubst %,build/tests/%.o,drive orbits sections lent line made_results result_pairs rules_compare aims_compare ask_compare)
-build/tests/files: $(ASK_FILES) $(SECOND)
-build/tests/summary: $(ASK_ROSTERS) $(SECOND)
-build/tests/rows: $(ASK_ROWS) $(SECOND)
-build/tests/compare: $(ASK_PAIRS) $(SECOND)
-$(GUIDED): $(ASK_STATES) $(ASK_FILES) $(ASK_ROSTERS) $(ASK_ROWS) $(ASK_PAIRS) $(patsubst %,build/tests/%.o,edges corpus packed changes changes_file changes_roster changes_rows changes_compare) $(TRACED)
-
-build/%: %.c $(HEADERS) machine lib
-	@mkdir -p $(@D)
-	@$(X86) compile $(STRICT) -Iinclude -o $@ $< $(filter %.o,$^) build/libkelubashi.a -lm
-
-build/bench/%: bench/row_%.c $(BESIDE) $(wildcard bench/*.h) include/kelubashi.h machine lib
-	@mkdir -p $(@D)
-	@$(X86) compile $(STRICT) -Iinclude -o $@ $< $(BESIDE) build/libkelubashi.a -lm
-
-build/bench/accuracy: bench/accuracy.c $(BESIDE) $(wildcard bench/*.h) include/kelubashi.h machine lib
-	@mkdir -p $(@D)
-	@$(X86) compile $(STRICT) -Iinclude -o $@ $< $(BESIDE) build/libkelubashi.a -lm
-
-# The second program knows nothing of the library, and what asks it alone links without it.
-build/tests/second/selftest: build/tests/second/selftest.o $(SELFTEST) $(SECOND) | machine
-	@$(X86) compile $(STRICT) -o $@ $^ -lm
-
-build/tests/second_rows: build/tests/answered_rows.o
-build/tests/second_results build/tests/second_rows: %: %.o $(SECOND) | machine
-	@$(X86) compile $(STRICT) -o $@ $^ -lm
-
-# Once more, with a call in every block that tells the guided program where it is.
-build/tests/traced/%.o: tests/second/%.c $(HEADERS) | machine
-	@mkdir -p $(@D)
-	@$(X86) compile $(STRICT) -fsanitize-coverage=trace-pc -c -o $@ $<
-
-build/%.o: %.c $(HEADERS) | machine
-	@mkdir -p $(@D)
-	@$(X86) compile $(STRICT) -Iinclude -c -o $@ $<

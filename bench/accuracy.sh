@@ -16,9 +16,9 @@ choose() {
 }
 
 what='there is no python3 with mpmath to work out exact positions'
-choose || sh "$here/../tests/packages.sh" accuracy "$what" "$build/bench/packages.log" python3-mpmath
+choose || sh "$here/../tests/machine/packages.sh" accuracy "$what" "$build/bench/packages.log" python3-mpmath
 choose || {
     echo "accuracy: $what, and installing python3-mpmath did not help: build/bench/packages.log has what was tried" >&2
     exit 1
 }
-"$python" "$here/accuracy.py" sh "$here/../tests/machine.sh" run "$build/bench/accuracy"
+"$python" "$here/accuracy.py" sh "$here/../tests/machine/x86.sh" run "$build/bench/accuracy"

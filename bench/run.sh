@@ -8,7 +8,7 @@ set -eu
 
 here=$(dirname "$0")
 build=$here/../build
-x86=$here/../tests/machine.sh
+x86=$here/../tests/machine/x86.sh
 plugin=$build/bench/count.so
 machine=$(uname -m)
 
@@ -64,7 +64,7 @@ compile_plugin() {
 # An emulator that is linked statically takes no plugin, as Debian's from release 13 on; its log says the same, more slowly.
 choose() {
     command -v qemu-x86_64 >/dev/null ||
-        sh "$here/../tests/packages.sh" bench 'there is no emulator to count with' "$build/bench/packages.log" qemu-user
+        sh "$here/../tests/machine/packages.sh" bench 'there is no emulator to count with' "$build/bench/packages.log" qemu-user
     command -v qemu-x86_64 >/dev/null || fail "installing qemu-user did not help: $build/bench/packages.log has what was tried"
     count=by_plugin passes=20
     if command -v cc >/dev/null && compile_plugin && counts by_plugin; then

@@ -3,7 +3,7 @@
 **
 **  The library's figures are right only on a processor that rounds to nearest and keeps subnormal
 **  numbers. A host can lose both without a word: by fesetround, or by being linked with -ffast-math.
-**  The call is no part of the library: compile kelubashi_selfcheck.c with the program.
+**  The call is no part of the library: compile kelubashi_selfcheck.c with the program; its cases are in kelubashi_selfcheck_cases.h beside it.
 */
 #ifndef KELUBASHI_SELFCHECK_H
 #define KELUBASHI_SELFCHECK_H
