@@ -670,7 +670,7 @@ static inline const struct kelubashi_refusal *kelubashi_refusal_of(uint64_t numb
               "lend 4 words for each centre, and give as many as their count" },
         { 42, "500 states are in use already, or the state to withdraw is not in use",
               "withdraw a state first, or give the number of one that is there, from 0" },
-        { 51, "the two result files do not have as many rows as one another",
+        { 51, "the two result files do not have the same number of rows",
               "compare the results of one element file, and look at which file each was made of" },
         { 60, "the answer run is not as long as the answer; nothing is written",
               "lend 15 words (1 for the root, 8 to read, 7 to compare, 2 for the other calls with files or states), and give their count" },

@@ -10,7 +10,7 @@
 #include <stdlib.h>
 #include <string.h>
 
-const char *const test_name = "case_compare";
+const char *const test_name = "cases of pairs";
 
 #define W(digits) UINT64_C(0x##digits)
 #define ONE W(3FF0000000000000)

@@ -12,7 +12,7 @@
 #include <stdio.h>
 #include <stdlib.h>
 
-const char *const test_name = "case_files";
+const char *const test_name = "cases of files";
 
 #define ONE UINT64_C(0x3FF0000000000000)
 #define MINUS_ZERO UINT64_C(0x8000000000000000)

@@ -11,7 +11,7 @@
 #include <stdlib.h>
 #include <string.h>
 
-const char *const test_name = "case_rows";
+const char *const test_name = "cases of rows";
 
 #define MINUS_ZERO UINT64_C(0x8000000000000000)
 #define LEAST 0x1p-1074

@@ -21,6 +21,11 @@ second_rows() {
     sh "$here/tests/machine/x86.sh" run "$here/build/tests/command/second_rows" "${1:-0}"
 }
 
+# A manual page as it is set: a line that ends in a backslash goes on in the next, and \- is a minus.
+page() {
+    sed -e ':more' -e '/\\$/{N;s/\\\n//;b more' -e '}' -e 's/\\-/-/g' "$here/man/$1"
+}
+
 # Runs the command with these words; its status has to be $1. What it wrote is in wrote, what it said in said.
 kelubashi() {
     wanted=$1 status=0

@@ -512,7 +512,7 @@ kelubashi 1 results -q "$room/short" -o "$given"
 untold "has no rows to compare: it is the result file of an element file that is refused (21): the file ends before a word that is needed, or in it; correct the element file, as kelubashi read tells it, and make the results anew with kelubashi results"
 
 # 51: both counts and both names; of both files at fault the reference is told.
-counts='refused (51): the two result files do not have as many rows as one another; compare the results of one element file, and look at which file each was made of'
+counts='refused (51): the two result files do not have the same number of rows; compare the results of one element file, and look at which file each was made of'
 results "$room/fewer" "$row"
 results "$room/bare"
 results "$room/more" "$row" "$row" "$row"
@@ -639,7 +639,7 @@ head -c 240 "$old" >"$room/page/east.results"
 
 # The page's lines from the one that begins with $1 on, up to the next that ends an example.
 paged() {
-    sed -n "/^$1/,/^\.EE/p" "$here/man/kelubashi-compare.1" | sed '$d; s/\\-/-/g' >"$room/lines"
+    page kelubashi-compare.1 | sed -n "/^$1/,/^\.EE/p" | sed '$d' >"$room/lines"
 }
 enter "$room/page"
 kelubashi 1 compare old.results new.results

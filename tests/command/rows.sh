@@ -152,7 +152,7 @@ for row in 0 1 2 3 4 5 6 7 8 9 10 11 12; do
 done
 rows "$given" "$@"
 kelubashi 1 check "$given"
-sed -n '/^row 1: /,/^\.EE/p' man/kelubashi-check.1 | sed "\$d; s/\\\\-/-/g; s|^partner\.rows|$given|" >"$room/page"
+page kelubashi-check.1 | sed -n '/^row 1: /,/^\.EE/p' | sed "\$d; s|^partner\.rows|$given|" >"$room/page"
 diff "$room/page" "$room/wrote" || fail 'the example of kelubashi-check.1, marked <, is not what check shows of it'
 
 # ---- check: files that are refused, with the byte, and whose word that is.
@@ -374,7 +374,7 @@ part 1499 1 0
 
 # The example of kelubashi-rows.1.
 kelubashi 1 rows "$room/many" -o "$room/out/file"
-sed -n '/^kelubashi rows: /,/^\.EE/p' man/kelubashi-rows.1 | sed "\$d; s/\\\\-/-/g; s|today\.elements|$room/many|g; s|today\.rows|$room/out/file|g" >"$room/page"
+page kelubashi-rows.1 | sed -n '/^kelubashi rows: /,/^\.EE/p' | sed "\$d; s|today\.elements|$room/many|g; s|today\.rows|$room/out/file|g" >"$room/page"
 diff "$room/page" "$room/said" || fail 'the example of kelubashi-rows.1, marked <, is not what rows says of it'
 cp "$room/kept" "$room/out/file"
 

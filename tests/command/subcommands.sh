@@ -371,7 +371,7 @@ screen $example '672 bytes: centres 2, states 6, requests 15' <<SCREEN
 0 398600.4418 5 0 0.000 43200.000
 1 4902.8001 1 0 0.000 0.000
 SCREEN
-sed -n '/^examples/,/^\.EE/p' man/kelubashi-centres.1 | sed '$d' >"$room/page"
+page kelubashi-centres.1 | sed -n '/^examples/,/^\.EE/p' | sed '$d' >"$room/page"
 cmp -s "$room/page" "$room/screen" || fail "the example of kelubashi-centres.1 is not the screen of $example"
 
 # In no order, below zero, the same twice, beyond the column's digits; a centre with no epoch shows +0 twice.

@@ -3,7 +3,7 @@
 set -eu
 cd "$(dirname "$0")/../.."
 export LC_ALL=C.UTF-8     # columns are characters
-longer=$(find crates/*/specs crates/*/src crates.txt include man docs bench tests ./*.md -name '*.antt' -o -name '*.rt' -o -name '*.txt' -o -name '*.h' -o -name '*.md' -o -name '*.[135]' |
+longer=$(find crates/*/specs crates/*/src include man docs bench tests ./*.md -name '*.antt' -o -name '*.rt' -o -name '*.h' -o -name '*.md' -o -name '*.[135]' |
     xargs grep -nE '^.{161,}' | cut -c 1-100) || true
 [ -z "$longer" ] || {
     echo "$longer"
