@@ -1,5 +1,5 @@
 -- Document 01: "Every operation rounds once, to nearest, ties to even."
--- `lib.Ieee` is the logic's account of IEEE 754; these are its operations at binary64 by their usual signs in a ring, so that a formula here can be
+-- `lib.Ieee` is the logic's account of IEEE 754; these are its operations at binary64, written as their usual signs in a circle, so that a formula here can be
 -- held beside the document's. The signs bind and group as there: `⊗` and `⊘` before `⊕` and `⊖`, each from the left.
 -- A constant is given by its bit pattern, as the code's literal is; `whole-numbers` says that each is the number that its name says.
 use mathlib.Core.Path.{_≡_, refl}
@@ -50,7 +50,7 @@ magnitude nan = nan
 magnitude (inf s) = inf false
 magnitude (fin s m e) = fin false m e
 
--- Each of a list of constants, beside the whole number that it is to be, is that number.
+-- Each constant of a list is the whole number that stands beside it.
 abbrev pub AreWhole : List (Float × ℕ) → Type 0
 AreWhole [] = Unit {0}
 AreWhole (c ∷ cs) = (c .0 ≡ ofInt binary64 (pos (c .1))) × AreWhole cs

@@ -1,4 +1,4 @@
--- A choice by a test. Definitions of every layer go by it, and not by `cond`: where the test is known, only the case that it picks is computed.
+-- A choice by a test. Definitions of every layer use it, and not `cond`: where the test is known, only the case that it picks is computed.
 use mathlib.Core.Bool.{Bool, true, false}
 
 abbrev pub pick : {A : Type 0} → Bool → A → A → A

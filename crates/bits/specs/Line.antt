@@ -1,5 +1,5 @@
--- The line of doubles: a place for every word that is no NaN's, in the order of the numbers (`in-order`). Both zeros are one place, in the middle; the infinities
--- stand at the ends, and a word with its sign bit set as far below the middle as the same word without it above.
+-- The line of doubles: a place for every word but those of NaNs, in the order of the numbers (`in-order`). Both zeros are one place, in the middle; the
+-- infinities stand at the ends. A word with its sign bit set is as far below the middle as the same word without it is above.
 use mathlib.Core.Bool.{Bool}
 use Prim.Native.Nat.{ℕ, _+_, _-_, _%_, _^_}
 use lib.Dec.{ltb}
@@ -11,7 +11,7 @@ use Rattle.bits.specs.Words.{minusZero}
 abbrev pub isNanWord : ℕ → Bool
 isNanWord w = isNan (ofBits binary64 w)
 
--- The place of a word on the line, the zeros' being 2 ^ 63; and the word at a place, the zeros' being +0. No word is at place 0.
+-- The place of a word on the line, 2 ^ 63 for both zeros; and the word at a place, +0 for the zeros'. No word is at place 0.
 abbrev pub lineOf : ℕ → ℕ
 lineOf w = pick (ltb w minusZero) (minusZero + w) (2 ^ 64 - w)
 

@@ -39,7 +39,7 @@ pub record RootAnswer (word refusal root : ℕ) : Type 0 where
 
 -- ---- The same answer, computed.
 
--- The last word, of those whose digits from the k-th on are set as in w, before whose middle the root does not lie.
+-- Of the words whose digits from the k-th on are set as in w, the last whose middle lies before the root.
 unfoldable pub lastBelow : ℕ → ℕ → ℕ → ℕ
 unfolding middleSquared
 lastBelow zero goal w = w

@@ -1,5 +1,4 @@
--- Runs of words. A double crosses every border as its word, so that a run of figures or of divisors is looked through as words (refusals 31 to 38, 4 and
--- 8).
+-- Runs of words. A double crosses every border as its word, so a run of figures or divisors is searched as words (refusals 31 to 38, 4 and 8).
 use mathlib.Core.Bool.{Bool, true, false, not, _||_, _&&_}
 use mathlib.Core.List.{List, [], _∷_}
 use Prim.Native.Nat.{ℕ, _+_}
@@ -19,7 +18,7 @@ isSoughtDouble sought.NotFinite x = not (isFinite x)
 abbrev pub isSought : Sought → ℕ → Bool
 isSought s word = isSoughtDouble s (ofBits binary64 word)
 
--- The number of the first word that is sought, from 0; of a run without one, its length.
+-- The number, from 0, of the first word that is sought; the length of a run that has none.
 unfoldable pub firstOf : Sought → List ℕ → ℕ
 firstOf s [] = 0
 firstOf s (w ∷ ws) = pick (isSought s w) 0 (1 + firstOf s ws)
@@ -28,7 +27,7 @@ firstOf s (w ∷ ws) = pick (isSought s w) 0 (1 + firstOf s ws)
 unfoldable pub has : Sought → List ℕ → Bool
 has s words = ltb (firstOf s words) (length words)
 
--- The same of doubles as numbers: some of these is sought. `sought-words` says that a run of their words has one exactly then.
+-- The same for doubles as numbers: whether one of them is sought. `sought-words` says that a run of their words has one exactly then.
 unfoldable pub anySought : Sought → List Float → Bool
 anySought s [] = false
 anySought s (x ∷ xs) = isSoughtDouble s x || anySought s xs
@@ -38,11 +37,12 @@ abbrev pub AllFit : List Float → Type 0
 AllFit [] = Unit {0}
 AllFit (x ∷ xs) = T (fits binary64 x) × AllFit xs
 
--- What a run holds after words were copied to it: the words, where there are as many.
+-- What a run holds after words were copied to it: the words, where it is as long, else its own.
 unfoldable pub copied : (words run : List ℕ) → List ℕ
 copied words run = pick (eqb (length run) (length words)) words run
 
--- Whether two runs have the same words, and as many; `same-words` says that they are one run exactly then. Words are compared and not doubles: the zeros of two signs differ.
+-- Whether two runs have the same words and the same length; `same-words` says that they are one run exactly then. Words are compared, not
+-- doubles: zeros of different signs differ.
 unfoldable pub sameWords : (one other : List ℕ) → Bool
 sameWords [] [] = true
 sameWords [] (w ∷ ws) = false

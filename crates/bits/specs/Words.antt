@@ -28,7 +28,7 @@ infinity = 2047 * 2 ^ 52
 abbrev pub minusZero : ℕ
 minusZero = 2 ^ 63
 
--- How many times the smallest double above zero, 2 ^ -1074, a finite double with a clear sign bit is, by its exponent field and its digits.
+-- A finite double with a clear sign bit as a multiple of the smallest double above zero, 2 ^ -1074, by its exponent field and its digits.
 abbrev pub scaled : ℕ → ℕ → ℕ
 scaled zero t = t
 scaled (suc x) t = (2 ^ 52 + t) * 2 ^ x

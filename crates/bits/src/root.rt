@@ -31,10 +31,11 @@ struct Known {
     twice: u64,
 }
 
-// A step: to add `digit`, a weight, to q takes (2 q + digit) * digit, which is `take` in the unit of `left`. Where so much is left, the digit is 1.
+// A step: to add `digit`, a weight, to q takes (2 q + digit) * digit, which is `take` in the unit of `left`. Where that much is left, the digit is 1.
 fn next_digit(known: Known, digit: u64) -> Known
     requires { ⌜ (known .left < 2 ^ 63) × (known .twice + 2 * digit < 2 ^ 64) ⌝ }
-    ensures set { λ r. ⌜ (known .twice + digit ≤ known .left → (r .left ≡ (known .left - (known .twice + digit)) * 2) × (r .twice ≡ known .twice + digit + digit)) ⌝ }
+    ensures set { λ r. ⌜ (known .twice + digit ≤ known .left →
+        (r .left ≡ (known .left - (known .twice + digit)) * 2) × (r .twice ≡ known .twice + digit + digit)) ⌝ }
     ensures clear { λ r. ⌜ (known .left < known .twice + digit → (r .left ≡ known .left * 2) × (r .twice ≡ known .twice)) ⌝ }
 {
     let take = known.twice + digit;
@@ -50,8 +51,8 @@ fn next_digit(known: Known, digit: u64) -> Known
     }
 }
 
-// The root of m * 2^54 rounded down, a binary digit a step. The first digit that can be 1 is that of weight 2^53, and since 2^52 <= m it is: it is known without
-// a step. 53 steps find those after it, one and then 13 turns of four, for speed, of weights 8 * `digit` to `digit`.
+// The root of m * 2^54 rounded down, one binary digit per step. The first digit that can be 1 has weight 2^53; since 2^52 <= m, it is 1, and needs no step. 53
+// steps find the digits after it: one, and then, for speed, 13 turns of four, of weights 8 * `digit` to `digit`.
 fn root_digits(m: u64) -> u64
     requires { ⌜ (2 ^ 52 ≤ m) × (m < 2 ^ 54) ⌝ }
     ensures { λ q. ⌜ (q * q ≤ m * 2 ^ 54) × (m * 2 ^ 54 < (q + 1) * (q + 1)) ⌝ }
@@ -72,8 +73,8 @@ fn root_digits(m: u64) -> u64
     known.twice / 2
 }
 
-// A subnormal's digits moved up by their leading zeros, all but the 11 above 53 digits, so that the root's first digit has the same weight for every number;
-// and the power of two that makes up for it: together they are digits * 2^52.
+// A subnormal's digits moved up by their leading zeros less 11, to 53 digits, so that the root's first digit has the same weight for every number; and the
+// power of two that makes up for it: together they are digits * 2^52.
 fn normalised(digits: u64) -> Scaled
     requires { ⌜ (0 < digits) × (digits < 2 ^ 52) ⌝ }
     ensures { λ r. ⌜ (r .«digits» * 2 ^ r .power ≡ digits * 2 ^ 52) × (2 ^ 52 ≤ r .«digits») × (r .«digits» < 2 ^ 53) × (r .power ≤ 52) ⌝ }

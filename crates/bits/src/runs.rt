@@ -41,7 +41,7 @@ pub fn has(words: &[u64], sought: Sought) -> bool
     first_of(words, sought) < words.len()
 }
 
-// Copies the words into a run of their number; a run of another length keeps its own.
+// Copies the words into a run of the same length; a run of another length keeps its own.
 pub fn copy_words(words: &[u64], run: &mut [u64])
     ensures { λ _. ⌜ now (run .exit) ≡ copied (now (words .entry)) (now (run .entry)) ⌝ }
 {
@@ -55,7 +55,7 @@ pub fn copy_words(words: &[u64], run: &mut [u64])
     }
 }
 
-// Whether two runs have the same words, and as many.
+// Whether two runs have the same words and the same length.
 pub fn are_same(one: &[u64], other: &[u64]) -> bool
     ensures { λ r. ⌜ r ≡ sameWords (now (one .entry)) (now (other .entry)) ⌝ }
 {

@@ -59,7 +59,7 @@ pub fn is_finite(x: f64) -> bool
     x < 1.0 / 0.0 && x > -(1.0 / 0.0)
 }
 
-// The word of a double. Every NaN is one value, and has the word of one of them.
+// The word of a double. Every NaN is one value, and gets one NaN's word.
 pub fn word_of(x: f64) -> u64
     ensures { λ r. ⌜ r ≡ toBits binary64 x ⌝ }
 {
@@ -69,7 +69,7 @@ pub fn word_of(x: f64) -> u64
     f64::to_bits(x)
 }
 
-// The place of |x|: its bits as a whole number. A NaN has one of the places that are no number's.
+// The place of |x|: its bits as a whole number. The place of a NaN is no number's.
 pub fn place_of(x: f64) -> u64
     ensures { λ r. ⌜ r ≡ placeOf x ⌝ }
 {

@@ -1,4 +1,4 @@
--- What the laws of the reader and the writer speak of.
+-- What the laws of the reader and the writer are about.
 use Prim.Native.Nat.{ℕ, _+_, _*_, _^_}
 use mathlib.Core.Path.{_≡_}
 use mathlib.Core.List.{List, _++_}
@@ -30,7 +30,7 @@ pub record WrittenAs (centres states requests room file : List ℕ) : Type 0 whe
   pub accepted : writingOf centres states requests room ≡ Length (length file)
   pub same : roomOf centres states requests room ≡ file ++ drop (length file) room
 
--- Some runs of words are, with some room.
+-- Some runs of words, with some room, are written as this file.
 pub record Writable (file : List ℕ) : Type 0 where
   pub centres : List ℕ
   pub states : List ℕ

@@ -98,7 +98,7 @@ unfoldable pub roomOf : List ℕ → List ℕ → List ℕ → List ℕ → List
 unfolding writeCheck fileOf put
 roomOf centres states requests room = roomBy (writeCheck centres states requests (length room)) room (fileOf centres states requests)
 
--- ---- What the writer's inner steps go by: runs of so many words are within the limits, and runs are whole records within them, with room for their file.
+-- ---- What the writer's inner steps need: runs of so many words are within the limits; runs are whole records within the limits, with room for their file.
 pub record Within (centres states requests : ℕ) : Type 0 where
   pub few-centres : recordsIn Centres centres ≤ limitOf Centres
   pub few-states : recordsIn States states ≤ limitOf States

@@ -1,5 +1,5 @@
--- Rows with the verdict that document 02 gives them (T-06), through the whole of a file, and files with their refusals; then one statement each, computed from the
--- definitions. All figures are worked out by hand, in small whole numbers.
+-- Rows with the verdict that document 02 gives them (T-06), through the whole of a file, and files with their refusals; then one statement each, computed from
+-- the definitions. All figures are worked out by hand, in small whole numbers.
 use mathlib.Core.Path.{_≡_, refl}
 use mathlib.Core.List.{List, [], _∷_, _++_, map}
 use Prim.Native.Nat.{ℕ, _+_}
@@ -61,7 +61,7 @@ around psi =
     one ∷ one ∷ 0 ∷ 0 ∷ 0 ∷ one ∷ 0 ∷ 0x4032d97c7f3321d2 ∷ psi
     ∷ one ∷ 0 ∷ 0 ∷ 0 ∷ one ∷ 0 ∷ minusOne ∷ minusZero ∷ minusZero ∷ []
 
--- μ = 343, position (2,3,6), whose radius is 7, velocity (1,5,4), τ = 0: the acceleration is (−2,−3,−6), and no two of the nine are in each other's place.
+-- μ = 343, position (2,3,6), whose radius is 7, velocity (1,5,4), τ = 0: the acceleration is (−2,−3,−6), and the nine figures are all different.
 abbrev atOnce : List ℕ
 atOnce =
     0x4075700000000000 ∷ two ∷ three ∷ 0x4018000000000000 ∷ one ∷ 0x4014000000000000 ∷ 0x4010000000000000 ∷ 0 ∷ 0
@@ -74,7 +74,7 @@ table =
     -- P10 and P11: exact.
     yes (stays one one one)
     ∷ yes (stays one minusOne minusOne)
-    -- "has the sign of τ": 1 has that of −1 in its place alone.
+    -- "has the sign of τ": −1 has the place of 1, but not its sign.
     ∷ no (stays one one minusOne)
     -- A neighbour of an exact place: past, with an exact one before it.
     ∷ no (stays one one (one + 1))
@@ -86,7 +86,7 @@ table =
     ∷ no (stays three 4 2)
     ∷ no (stays three 4 0)
     ∷ no (stays three 4 3)
-    -- R is −2 at 1 and 1 at 2: it is 2.
+    -- R is −2 at 1 and 1 at 2: the answer is 2.
     ∷ yes (stays three 5 2)
     ∷ no (stays three 5 1)
     -- R is −1 at 1 and 1 at 2, with r0 = 2: "the short one on a tie", for a τ of either sign.
@@ -125,7 +125,13 @@ after (c ∷ cs) = c .verdict ∷ after cs
 
 -- Each row of the table, in one file, has its verdict.
 pub marked : verdictsAfter (asBytes (length table ∷ rowsOf table)) (before table) ≡ after table
-unfolding verdictsAfter rowsCheck filledCheck countedCheck countCheck walk words wordsFrom wordAt numberOf bytesOf asBytes verdictsOf verdictOf fieldsAt accepts acceptsAt reachedWordsBy reachedOrbitBy reachedFromBy reachedOverBy reachedFound intervalOf withoutRevolutions withoutN asItIs floorOf courseOf isClosed isUsable revolutionOf ofInt readOf begunOf dot firstStepOf endedOf figuresOf resultsOf accelerationOf arcOf endStateOf factorsOf has firstOf sameWords isRight isRightBeyondZero hasSignOf passes shortPasses pastPasses picks nearerEnd trialAt evaluatedAt sortOf anomalyAt timeErrorOf radiusOf coefficientsOf sumsOf quotientsOf doublings atReduced c4Of c5Of nested reducedFrom beyondOne rootOf rootWordOf add sub mul div neg lt eq ne ofBits toBits
+unfolding
+    verdictsAfter rowsCheck filledCheck countedCheck countCheck walk words wordsFrom wordAt numberOf bytesOf asBytes verdictsOf verdictOf fieldsAt
+    accepts acceptsAt reachedWordsBy reachedOrbitBy reachedFromBy reachedOverBy reachedFound intervalOf withoutRevolutions withoutN asItIs floorOf
+    courseOf isClosed isUsable revolutionOf ofInt readOf begunOf dot firstStepOf endedOf figuresOf resultsOf accelerationOf arcOf endStateOf factorsOf
+    has firstOf sameWords isRight isRightBeyondZero hasSignOf passes shortPasses pastPasses picks nearerEnd trialAt evaluatedAt sortOf anomalyAt
+    timeErrorOf radiusOf coefficientsOf sumsOf quotientsOf doublings atReduced c4Of c5Of nested reducedFrom beyondOne rootOf rootWordOf add sub mul
+    div neg lt eq ne ofBits toBits
 marked = refl
 
 -- ---- Files.

@@ -28,12 +28,12 @@ rowPlace k = countPlace + 8 + 8 * (k * rowWords)
 abbrev pub rowsIn : List ℕ → ℕ
 rowsIn file = wordAt file countPlace
 
--- "21, 23, 25 as for element files": the count, as many rows, whose words may hold any bits, and the end.
+-- "21, 23, 25 as for element files": the count, that many rows, whose words may hold any bits, and the end.
 unfoldable pub rowsCheck : List ℕ → Check
 unfolding filledCheck
 rowsCheck file = filledCheck file countPlace mostRows rowWords
 
--- ---- "eight input words, a proposed anomaly and the nine end figures": so many words of the record at a place, from one of them on.
+-- ---- "eight input words, a proposed anomaly and the nine end figures": `count` words of the record at a place, starting at word `from`.
 unfoldable pub fieldsAt : List ℕ → (place from count : ℕ) → List ℕ
 fieldsAt file place from zero = []
 fieldsAt file place from (suc n) = wordAt file (place + 8 * from) ∷ fieldsAt file place (suc from) n
@@ -54,7 +54,7 @@ verdictOf given anomaly nine = pick (accepts given anomaly nine) 1 0
 abbrev pub verdictAt : List ℕ → (k : ℕ) → ℕ
 verdictAt file k = verdictOf (givenAt file (rowPlace k)) (proposedAt file (rowPlace k)) (nineAt file (rowPlace k))
 
--- Those of the first n rows.
+-- The verdicts of the first n rows.
 unfoldable pub verdictsOf : List ℕ → (n : ℕ) → List ℕ
 verdictsOf file zero = []
 verdictsOf file (suc n) = verdictsOf file n ++ (verdictAt file n ∷ [])
@@ -67,7 +67,7 @@ judgedBy (Fault number place) rows room = record { number = number; «place_or_r
 unfoldable pub judgedOf : List ℕ → (room : ℕ) → Judged
 judgedOf file room = judgedBy (rowsCheck file) (rowsIn file) room
 
--- What the lent run holds afterwards: the verdicts, and behind them what it held; under a refusal, all of that.
+-- What the lent run holds afterwards: the verdicts, and behind them what it held; under a refusal, all that it held.
 abbrev pub withVerdicts : List ℕ → (n : ℕ) → (run : List ℕ) → List ℕ
 withVerdicts file n run = verdictsOf file n ++ drop n run
 

@@ -1,4 +1,4 @@
--- What a file of rows means, said of the rows and not of its bytes: each row has its own verdict, in its own place; and those that we answered ourselves have 1.
+-- What a file of rows means, by its rows and not its bytes: each row has its own verdict, in its own place; and those that we answered ourselves have 1.
 use mathlib.Core.Path.{_≡_}
 use mathlib.Core.Logic.{_⊎_}
 use mathlib.Core.List.{List, _∷_, _++_, map}
@@ -39,7 +39,7 @@ fileOf rows = asBytes (length rows ∷ allWords wordsIn rows)
 abbrev pub verdictOn : Row → ℕ
 verdictOn r = verdictOf (r .given) (r .anomaly) (r .nine)
 
--- A file of up to 400 rows is not refused but by 26; the rows are told; and the verdicts of all stand before what the run held behind them.
+-- A file of up to 400 rows can be refused by 26 alone; the rows are told; and all verdicts stand in the run, before what it held behind them.
 pub record JudgedRows (rows : List Row) (run : List ℕ) : Type 0 where
   pub answer : judgedOf (fileOf rows) (length run) ≡ record { number = pick (leb (length rows) (length run)) 0 26; «place_or_rows» = length rows }
   pub verdicts : length rows ≤ length run → verdictsAfter (fileOf rows) run ≡ map verdictOn rows ++ drop (length rows) run

@@ -3,7 +3,20 @@ ghost use mathlib.Core.Path.{_≡_};
 ghost use Prim.Native.Nat.{_+_, _*_, _≤_, _<_};
 ghost use lib.ListN.{length};
 ghost use Rattle.files_words.specs.Bytes.{wordAt};
-ghost use Rattle.files_check.specs.RowsFile.{mostRows, rowPlace, rowsCheck, givenAt, nineAt, verdictOf, verdictAt, judgedBy, judgedOf, withVerdicts, verdictsBy, verdictsAfter};
+ghost use Rattle.files_check.specs.RowsFile.{
+  mostRows,
+  rowPlace,
+  rowsCheck,
+  givenAt,
+  nineAt,
+  verdictOf,
+  verdictAt,
+  judgedBy,
+  judgedOf,
+  withVerdicts,
+  verdictsBy,
+  verdictsAfter,
+};
 use files_sections::Check;
 use files_sections::check_filled;
 use files_words::word_at;
@@ -29,7 +42,7 @@ fn row_place(k: usize) -> usize
     COUNT_PLACE + 8 + 8 * (k * ROW_WORDS as usize)
 }
 
-// The count, as many whole rows, and nothing behind them.
+// The count, that many whole rows, and nothing behind them.
 fn check_rows(file: &[u8]) -> Check
     ensures { λ r. ⌜ r ≡ rowsCheck (now (file .entry)) ⌝ }
 {

@@ -1,5 +1,5 @@
--- Document 02, T-07: "Read two result files. For each row and figure tell the distance in last places .., and the row and word of the first largest distance." "Refusals: 21, 22, 23 and 25,
--- left file first .., then 51 row counts differ."
+-- Document 02, T-07: "Read two result files. For each row and figure tell the distance in last places .., and the row and word of the first largest distance."
+-- "Refusals: 21, 22, 23 and 25, left file first .., then 51 row counts differ."
 use mathlib.Core.List.{List, [], _∷_, _++_}
 use Prim.Native.Nat.{ℕ, zero, suc, _+_, _*_}
 use lib.Dec.{eqb, leb}
@@ -37,7 +37,7 @@ abbrev pub wordIn : (row : List ℕ) (n : ℕ) → ℕ
 wordIn row n = wordAt row (8 * n)
 
 module _ (l r : List ℕ) where
-  -- What they are; and what is told of their figure j, the first being figure 0.
+  -- What the two rows are; and what is said of their figure j, from 0.
   abbrev pub kindOn : RowKind
   kindOn = rowKindOf (wordIn l rowRefusal) (wordIn r rowRefusal)
 
@@ -52,7 +52,7 @@ module _ (l r : List ℕ) where
   abbrev pub rowTold : List ℕ
   rowTold = rowKindWord kindOn ∷ figuresTold figuresOfRow
 
-  -- The first largest distance with their first n figures, after what is known of those before; they are rows k.
+  -- The first largest distance of the first n figures of rows k and of those known before.
   unfoldable pub largestInRow : Largest → (k n : ℕ) → Largest
   largestInRow known k zero = known
   largestInRow known k (suc n) = largestWith (largestInRow known k n) k (rowFigures + n) (figureOn n)
@@ -68,7 +68,7 @@ module _ (left right : List ℕ) where
   abbrev pub figureAt : (k j : ℕ) → Figure
   figureAt k j = figureOn (rowAt left k) (rowAt right k) j
 
-  -- What is told of the first n rows, and the first largest distance of all of them.
+  -- What is said of the first n rows, and the first largest distance in them.
   unfoldable pub rowsTold : (n : ℕ) → List ℕ
   rowsTold zero = []
   rowsTold (suc n) = rowsTold n ++ rowTold (rowAt left n) (rowAt right n)
@@ -77,7 +77,7 @@ module _ (left right : List ℕ) where
   largestOf zero = largest.Nowhere
   largestOf (suc n) = largestInRow (rowAt left n) (rowAt right n) (largestOf n) n figuresOfRow
 
--- The words that are told of a row, and of all rows of a file.
+-- How many words are told for a row, and for all rows of a file.
 abbrev pub toldWords : ℕ
 toldWords = 1 + 2 * figuresOfRow
 
@@ -99,7 +99,7 @@ comparisonOf left right room =
     (unlessRefused side.Neither (need (leb (wordsNeeded left) room) 26 (wordsNeeded left))
     (comparison.Compared count (largestOf left right count)))))
 
--- What the lent run holds afterwards: what is told of the rows, and behind that what it held; under a refusal, all that it held.
+-- What the lent run holds afterwards: the words of the rows, and behind them what it held; under a refusal, all that it held.
 abbrev pub unlessCompared : Comparison → (kept told : List ℕ) → List ℕ
 unlessCompared (comparison.Compared count l) kept told = told
 unlessCompared (comparison.Refused number s place) kept told = kept

@@ -1,5 +1,5 @@
--- What a comparison means, said without its steps: which files are compared and which refused, in document 02's order; what the first largest distance is; what is told of the rows of two
--- files; that a file does not differ from itself, and that it does not matter which file is the left one.
+-- What a comparison means, without its steps: which files are compared and which refused, in document 02's order; what the first largest distance is; what is
+-- said of the rows of two files; that a file does not differ from itself, and that it does not matter which file is the left one.
 use mathlib.Core.Path.{_≡_}
 use mathlib.Core.Logic.{_⊎_}
 use mathlib.Core.List.{List, [], _∷_, _++_}
@@ -34,7 +34,8 @@ SoundSo = (file : List ℕ) → resultsCheck file ≡ Sound → SoundFile file
 abbrev pub RefusedFileIs25 : Type 0
 RefusedFileIs25 = (number : ℕ) → resultsCheck (asBytes (1 ∷ 0 ∷ number ∷ [])) ≡ Fault 25 16
 
--- A file that is refused: the first fault on the way, and where it is; what stands before it is right. 21 is at the first word that is not whole, 25 at the first byte left.
+-- A file that is refused: the first fault on the way, and where it is; what stands before it is right. 21 is at the first word that
+-- is not whole, 25 at the first byte left.
 abbrev pub EditionRight : List ℕ → Type 0
 EditionRight file = 8 ≤ length file → wordAt file 0 ≡ 1
 
@@ -51,8 +52,10 @@ FaultSo = (file : List ℕ) (number place : ℕ) → resultsCheck file ≡ Fault
 -- ---- "Refusals: 21, 22, 23 and 25, left file first .., then 51 row counts differ"; then 26, with the words needed.
 pub record InOrder (left right : List ℕ) (room : ℕ) : Type 0 where
   pub left-first : (number place : ℕ) → resultsCheck left ≡ Fault number place → comparisonOf left right room ≡ comparison.Refused number side.Left place
-  pub then-right : resultsCheck left ≡ Sound → (number place : ℕ) → resultsCheck right ≡ Fault number place → comparisonOf left right room ≡ comparison.Refused number side.Right place
-  pub then-51 : resultsCheck left ≡ Sound → resultsCheck right ≡ Sound → (rowCount left ≡ rowCount right → ⊥) → comparisonOf left right room ≡ comparison.Refused 51 side.Neither 0
+  pub then-right : resultsCheck left ≡ Sound → (number place : ℕ) → resultsCheck right ≡ Fault number place →
+      comparisonOf left right room ≡ comparison.Refused number side.Right place
+  pub then-51 : resultsCheck left ≡ Sound → resultsCheck right ≡ Sound → (rowCount left ≡ rowCount right → ⊥) →
+      comparisonOf left right room ≡ comparison.Refused 51 side.Neither 0
   pub then-26 : resultsCheck left ≡ Sound → resultsCheck right ≡ Sound → rowCount left ≡ rowCount right → room < wordsNeeded left →
       comparisonOf left right room ≡ comparison.Refused 26 side.Neither (wordsNeeded left)
   pub else-compared : resultsCheck left ≡ Sound → resultsCheck right ≡ Sound → rowCount left ≡ rowCount right → wordsNeeded left ≤ room →
@@ -70,12 +73,14 @@ pub record KeptOrTold (left right run : List ℕ) : Type 0 where
 abbrev pub KeepsOrTells : Type 0
 KeepsOrTells = (left right run : List ℕ) → KeptOrTold left right run
 
--- ---- "the row and word of the first largest distance". Figures come row by row, and in a row one after another: figure j of rows k comes before figure n of rows `row`.
+-- ---- "the row and word of the first largest distance". Figures come row by row, and in order in a row: figure j of
+-- rows k comes before figure n of rows `row`.
 abbrev pub Earlier : (k j row n : ℕ) → Type 0
 Earlier k j row n = (k < row) ⊎ ((k ≡ row) × (j < n))
 
 module _ (left right : List ℕ) where
-  -- Of all figures before figure n of rows `row`, figure j of rows k is the first that has the largest distance, d: none exceeds it, and those before it are smaller.
+  -- Of all figures before figure n of rows `row`, figure j of rows k is the first with the largest distance, d: none
+  -- exceeds it, and those before it are smaller.
   pub record IsFirst (row n k j d : ℕ) : Type 0 where
     pub there : Earlier k j row n
     pub a-figure : j < figuresOfRow
@@ -88,7 +93,7 @@ module _ (left right : List ℕ) where
   FirstLargest row n largest.Nowhere = (r i e : ℕ) → i < figuresOfRow → Earlier r i row n → figureAt left right r i ≡ figure.Distance e → ⊥
   FirstLargest row n (largest.At k word d) = (j : ℕ) × ((word ≡ rowFigures + j) × IsFirst row n k j d)
 
--- Of all rows: those before figure 0 of the row behind the last.
+-- For all rows: the figures before figure 0 of the row behind the last.
 abbrev pub LargestIsFirst : Type 0
 LargestIsFirst = (left right : List ℕ) (count : ℕ) → FirstLargest left right count 0 (largestOf left right count)
 
@@ -103,7 +108,7 @@ pub record AsItself (file : List ℕ) (k j : ℕ) : Type 0 where
 abbrev pub NothingMoved : Type 0
 NothingMoved = (file : List ℕ) (k j : ℕ) → AsItself file k j
 
--- ---- Whichever file is the left one, figures and the largest distance are the same, and rows refused on one side are told of the other.
+-- ---- Whichever file is the left one, figures and the largest distance are the same; rows that one side alone refused change sides.
 abbrev pub exchanged : RowKind → RowKind
 exchanged kind.Answered = kind.Answered
 exchanged kind.LeftRefused = kind.RightRefused
@@ -119,7 +124,7 @@ pub record EitherWay (left right : List ℕ) : Type 0 where
 abbrev pub SidesExchanged : Type 0
 SidesExchanged = (left right : List ℕ) → EitherWay left right
 
--- ---- What is told of the rows of two files, said of the rows and not of bytes. "per request 11 words: refusal or 0, points", and nine figures.
+-- ---- What is said of the rows of two files, by rows and not by bytes. "per request 11 words: refusal or 0, points", and nine figures.
 pub record Row : Type 0 where
   pub refusal : ℕ
   pub points : ℕ
@@ -153,7 +158,7 @@ allBetween [] rs = []
 allBetween (l ∷ ls) [] = []
 allBetween (l ∷ ls) (r ∷ rs) = between l r ++ allBetween ls rs
 
--- What is told of each figure of two files that have these rows, from row k on; so that the first largest distance is said of rows too.
+-- What is said of each figure of two files with these rows, from row k on; so the first largest distance too is by rows.
 abbrev pub FiguresOf : (left right : List ℕ) (k : ℕ) (ls rs : List Row) → Type 0
 FiguresOf left right k [] rs = Unit {0}
 FiguresOf left right k (l ∷ ls) [] = Unit {0}
@@ -161,7 +166,7 @@ FiguresOf left right k (l ∷ ls) (r ∷ rs) =
     ((j : ℕ) → j < 9 → figureAt left right k j ≡ figureIn (rowKindOf (l .refusal) (r .refusal)) (getD (l .figures) j 0) (getD (r .figures) j 0))
     × FiguresOf left right (suc k) ls rs
 
--- Files of as many rows, 1,500 at most, are compared where the run is long enough; it then holds what is told of each two rows, in their order.
+-- Files with the same number of rows, 1,500 at most, are compared where the run is long enough; it then holds the words of all rows, in their order.
 pub record RowsCompared (ls rs : List Row) (run : List ℕ) : Type 0 where
   pub answer : comparisonOf (fileOf ls) (fileOf rs) (length run) ≡ comparison.Compared (length ls) (largestOf (fileOf ls) (fileOf rs) (length ls))
   pub in-run : runAfter (fileOf ls) (fileOf rs) run ≡ allBetween ls rs ++ drop (19 * length ls) run
@@ -169,4 +174,5 @@ pub record RowsCompared (ls rs : List Row) (run : List ℕ) : Type 0 where
 
 abbrev pub ComparesRows : Type 0
 ComparesRows =
-    (ls rs : List Row) → AreRows ls → AreRows rs → length ls ≡ length rs → length ls ≤ 1500 → (run : List ℕ) → 19 * length ls ≤ length run → RowsCompared ls rs run
+    (ls rs : List Row) → AreRows ls → AreRows rs → length ls ≡ length rs → length ls ≤ 1500 →
+    (run : List ℕ) → 19 * length ls ≤ length run → RowsCompared ls rs run

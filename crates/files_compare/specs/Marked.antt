@@ -1,4 +1,5 @@
--- Pairs of result files with what document 02 says of them (T-07), through the whole of two files; then one statement each, computed from the definitions. All is worked out by hand.
+-- Pairs of result files with what document 02 says of them (T-07), through the whole of two files; then one statement each, computed from
+-- the definitions. All is worked out by hand.
 use mathlib.Core.Path.{_≡_, refl}
 use mathlib.Core.List.{List, [], _∷_, _++_, map}
 use Prim.Native.Nat.{ℕ, _+_, _*_, _-_}
@@ -51,7 +52,7 @@ minusNan = minusZero + nan
 abbrev quietless : ℕ
 quietless = 0x7ff0000000000001
 
--- ---- Rows. What the two rows hold, and the 19 words that are told of them.
+-- ---- Rows. What the two rows hold, and the 19 words that are told for them.
 pub record Case : Type 0 where
   pub left : List ℕ
   pub right : List ℕ
@@ -75,7 +76,7 @@ refused number = number ∷ 0 ∷ 0 ∷ 0 ∷ 0 ∷ 0 ∷ 0 ∷ 0 ∷ 0 ∷ 0 �
 abbrev holding : (number : ℕ) → List ℕ → List ℕ
 holding number figures = number ∷ 21 ∷ figures
 
--- What is told of nine figures that did not move; of nine of which nothing is told.
+-- The words of nine figures that did not move, and of nine that are untold.
 abbrev unmoved : List ℕ
 unmoved = replicate 18 0
 
@@ -86,14 +87,16 @@ abbrev pub table : List Case
 table =
     -- Points are not compared, and 0 is a distance.
     case (p10 21 one) (p10 22 one) (0 ∷ unmoved)
-    -- Each figure in its own place, one place and more.
+    -- Each figure in its own place, moved by one last place and more.
     ∷ case (row (one ∷ one ∷ one ∷ one ∷ one ∷ one ∷ one ∷ one ∷ one ∷ [])) (row (up 1 ∷ up 2 ∷ up 3 ∷ up 4 ∷ down 5 ∷ down 6 ∷ down 7 ∷ down 8 ∷ up 9 ∷ []))
     (0 ∷ 0 ∷ 1 ∷ 0 ∷ 2 ∷ 0 ∷ 3 ∷ 0 ∷ 4 ∷ 0 ∷ 5 ∷ 0 ∷ 6 ∷ 0 ∷ 7 ∷ 0 ∷ 8 ∷ 0 ∷ 9 ∷ [])
     -- "A figure not finite on either side has no distance, and is told as equal bits or unequal bits": by bits, so that NaNs can be equal.
-    ∷ case (row (infinity ∷ infinity ∷ one ∷ nan ∷ nan ∷ nan ∷ minusInfinity ∷ 0 ∷ one ∷ [])) (row (infinity ∷ one ∷ infinity ∷ nan ∷ otherNan ∷ one ∷ infinity ∷ minusZero ∷ minusOne ∷ []))
+    ∷ case (row (infinity ∷ infinity ∷ one ∷ nan ∷ nan ∷ nan ∷ minusInfinity ∷ 0 ∷ one ∷ []))
+    (row (infinity ∷ one ∷ infinity ∷ nan ∷ otherNan ∷ one ∷ infinity ∷ minusZero ∷ minusOne ∷ []))
     (0 ∷ 1 ∷ 0 ∷ 2 ∷ 0 ∷ 2 ∷ 0 ∷ 1 ∷ 0 ∷ 2 ∷ 0 ∷ 2 ∷ 0 ∷ 2 ∷ 0 ∷ 0 ∷ 0 ∷ 0 ∷ acrossZero ∷ [])
     -- From end to end; across zero in least units; an infinity below zero, on either side; NaNs with their sign bit set.
-    ∷ case (row (highest ∷ 1 ∷ minusInfinity ∷ one ∷ minusNan ∷ nan ∷ nan ∷ 1 ∷ 0 ∷ [])) (row (lowest ∷ 0x8000000000000002 ∷ one ∷ minusInfinity ∷ minusNan ∷ minusNan ∷ quietless ∷ 0 ∷ minusZero ∷ []))
+    ∷ case (row (highest ∷ 1 ∷ minusInfinity ∷ one ∷ minusNan ∷ nan ∷ nan ∷ 1 ∷ 0 ∷ []))
+    (row (lowest ∷ 0x8000000000000002 ∷ one ∷ minusInfinity ∷ minusNan ∷ minusNan ∷ quietless ∷ 0 ∷ minusZero ∷ []))
     (0 ∷ 0 ∷ 0xffdffffffffffffe ∷ 0 ∷ 3 ∷ 2 ∷ 0 ∷ 2 ∷ 0 ∷ 1 ∷ 0 ∷ 2 ∷ 0 ∷ 2 ∷ 0 ∷ 0 ∷ 1 ∷ 0 ∷ 0 ∷ [])
     -- "A row is refused when its first word isn't 0", on one side, on both, with one number or two; whatever the other words hold.
     ∷ case (refused 3) (p10 21 one) (1 ∷ untold)
@@ -122,9 +125,13 @@ allTold (c ∷ cs) = c .told ++ allTold cs
 abbrev file : (count : ℕ) → List ℕ → List ℕ
 file count rows = asBytes (1 ∷ count ∷ rows)
 
--- Each pair of rows of the table, in one pair of files; the word behind those that are told stays.
-pub marked : runAfter (file (length table) (leftRows table)) (file (length table) (rightRows table)) (replicate (19 * length table) 9 ++ (7 ∷ [])) ≡ allTold table ++ (7 ∷ [])
-unfolding runAfter comparisonOf resultsCheck editionCheck filledCheck countedCheck countCheck walk words wordsFrom wordAt numberOf bytesOf asBytes rowsTold rowAt figuresTold largestOf largestInRow rowKindOf figureOf ofBits
+-- Each pair of rows of the table, in one pair of files; the word behind the told ones stays.
+pub marked :
+    runAfter (file (length table) (leftRows table)) (file (length table) (rightRows table)) (replicate (19 * length table) 9 ++ (7 ∷ []))
+    ≡ allTold table ++ (7 ∷ [])
+unfolding
+    runAfter comparisonOf resultsCheck editionCheck filledCheck countedCheck countCheck walk words wordsFrom wordAt numberOf bytesOf asBytes rowsTold
+    rowAt figuresTold largestOf largestInRow rowKindOf figureOf ofBits
 marked = refl
 
 -- ---- Files: their bytes, the words lent for the rows, and the seven words that are answered.
@@ -148,18 +155,19 @@ whole = file 1 (p10 21 one)
 abbrev cut : (n : ℕ) → List ℕ
 cut n = take n whole
 
--- A file of it three times.
+-- A file with that row three times.
 abbrev three : List ℕ
 three = file 3 (p10 1 one ++ (p10 1 one ++ p10 1 one))
 
 abbrev pub files : List FileCase
 files =
-    -- The row and word of the first largest distance: here the first figure, and 0.
+    -- The row and word of the first largest distance: here row 0 and the first figure.
     answers whole whole 19 (0 ∷ 0 ∷ 0 ∷ 1 ∷ 0 ∷ 2 ∷ 0 ∷ [])
     ∷ answers whole (file 1 (p10 22 (up 1))) 400 (0 ∷ 0 ∷ 0 ∷ 1 ∷ 0 ∷ 2 ∷ 1 ∷ [])
     ∷ answers (file 1 (p10 1 highest)) (file 1 (p10 1 lowest)) 19 (0 ∷ 0 ∷ 0 ∷ 1 ∷ 0 ∷ 2 ∷ 0xffdffffffffffffe ∷ [])
     -- "the first largest": of two in one row, and of two rows.
-    ∷ answers (file 1 (row (one ∷ one ∷ one ∷ one ∷ one ∷ one ∷ one ∷ one ∷ one ∷ []))) (file 1 (row (one ∷ up 1 ∷ down 3 ∷ one ∷ up 3 ∷ one ∷ one ∷ one ∷ down 2 ∷ []))) 19 (0 ∷ 0 ∷ 0 ∷ 1 ∷ 0 ∷ 4 ∷ 3 ∷ [])
+    ∷ answers (file 1 (row (one ∷ one ∷ one ∷ one ∷ one ∷ one ∷ one ∷ one ∷ one ∷ [])))
+    (file 1 (row (one ∷ up 1 ∷ down 3 ∷ one ∷ up 3 ∷ one ∷ one ∷ one ∷ down 2 ∷ []))) 19 (0 ∷ 0 ∷ 0 ∷ 1 ∷ 0 ∷ 4 ∷ 3 ∷ [])
     ∷ answers three (file 3 (p10 1 one ++ (p10 1 (down 2) ++ p10 1 (up 2)))) 57 (0 ∷ 0 ∷ 0 ∷ 3 ∷ 1 ∷ 2 ∷ 2 ∷ [])
     -- "the row count and 11 where no figure has one": no row at all, none that is answered on both sides, or none that is finite.
     ∷ answers (file 0 []) (file 0 []) 0 (0 ∷ 0 ∷ 0 ∷ 0 ∷ 0 ∷ 11 ∷ 0 ∷ [])
@@ -190,5 +198,7 @@ files =
     ∷ []
 
 pub marked-files : map (λ (c : FileCase). compareWords (c .left) (c .right) (replicate (c .room) 9)) files ≡ map (λ (c : FileCase). c .answer) files
-unfolding comparisonWords comparisonOf resultsCheck editionCheck filledCheck countedCheck countCheck walk words wordsFrom wordAt numberOf bytesOf asBytes rowAt largestOf largestInRow rowKindOf figureOf ofBits
+unfolding
+    comparisonWords comparisonOf resultsCheck editionCheck filledCheck countedCheck countCheck walk words wordsFrom wordAt numberOf bytesOf asBytes
+    rowAt largestOf largestInRow rowKindOf figureOf ofBits
 marked-files = refl

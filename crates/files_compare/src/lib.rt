@@ -5,7 +5,20 @@ ghost use lib.ListN.{length};
 ghost use Rattle.files_words.specs.Bytes.{put};
 ghost use Rattle.files_sections.specs.ResultLayout.{rowPlace, rowBytes, figuresOfRow};
 ghost use Rattle.files_told.specs.Told.{figureWords};
-ghost use Rattle.files_compare.specs.Compare.{mostRows, toldWords, resultsCheck, kindOn, figuresTold, rowTold, rowAt, rowsTold, largestInRow, largestOf, comparisonOf, runAfter};
+ghost use Rattle.files_compare.specs.Compare.{
+  mostRows,
+  toldWords,
+  resultsCheck,
+  kindOn,
+  figuresTold,
+  rowTold,
+  rowAt,
+  rowsTold,
+  largestInRow,
+  largestOf,
+  comparisonOf,
+  runAfter,
+};
 use files_sections::Check;
 use files_sections::MOST_REQUESTS;
 use files_sections::check_edition;
@@ -31,10 +44,10 @@ use files_told::row_kind_of;
 use files_told::row_kind_word;
 use files_words::word_at;
 
-// The words that are told of a row: what it is, then a kind and a distance for each figure.
+// The words that are told for a row: what it is, then a kind and a distance for each figure.
 pub const TOLD_WORDS: usize = 1 + 2 * FIGURES_OF_ROW;
 
-// A result file: its edition, a count of rows, as many rows, and nothing behind them.
+// A result file: its edition, a count of rows, that many rows, and nothing behind them.
 fn check_results(file: &[u8]) -> Check
     ensures { λ r. ⌜ r ≡ resultsCheck (now (file .entry)) ⌝ }
 {
@@ -44,7 +57,7 @@ fn check_results(file: &[u8]) -> Check
     )
 }
 
-// What is told of a figure, put to a run.
+// The words of a figure, put in a run.
 fn put_figure(run: &mut [u64], at: usize, figure: Figure)
     requires { ⌜ at + 2 ≤ length (now run) ⌝ }
     ensures { λ _. ⌜ now (run .exit) ≡ put (now (run .entry)) at (figureWords figure) ⌝ }
@@ -54,7 +67,7 @@ fn put_figure(run: &mut [u64], at: usize, figure: Figure)
     run[at + 1] = words[1];
 }
 
-// The figures of two rows, which are rows k, told to their place in a run; and the first largest distance with theirs.
+// The figures of rows k, told to their place in a run; and the first largest distance with theirs.
 fn tell_figures(
     l: &[u8],
     r: &[u8],
@@ -80,7 +93,7 @@ fn tell_figures(
     largest
 }
 
-// Two rows, which are rows k, told to their place in a run; and the first largest distance with theirs.
+// Rows k, told to their place in a run; and the first largest distance with theirs.
 fn tell_row(l: &[u8], r: &[u8], k: usize, run: &mut [u64], known: Largest) -> Largest
     requires { ⌜ (k < mostRows) × (toldWords * k + toldWords ≤ length (now run)) ⌝ }
     ensures run { λ _. ⌜ now (run .exit) ≡ put (now (run .entry)) (toldWords * k) (rowTold (now (l .entry)) (now (r .entry))) ⌝ }
@@ -93,7 +106,8 @@ fn tell_row(l: &[u8], r: &[u8], k: usize, run: &mut [u64], known: Largest) -> La
 
 // Rows k of two files that have them.
 fn compare_row(left: &[u8], right: &[u8], k: usize, run: &mut [u64], known: Largest) -> Largest
-    requires { ⌜ (k < mostRows) × (toldWords * k + toldWords ≤ length (now run)) × (rowPlace k + rowBytes ≤ length (now left)) × (rowPlace k + rowBytes ≤ length (now right)) ⌝ }
+    requires { ⌜ (k < mostRows) × (toldWords * k + toldWords ≤ length (now run))
+        × (rowPlace k + rowBytes ≤ length (now left)) × (rowPlace k + rowBytes ≤ length (now right)) ⌝ }
     ensures run { λ _. ⌜ now (run .exit) ≡ put (now (run .entry)) (toldWords * k) (rowTold (rowAt (now (left .entry)) k) (rowAt (now (right .entry)) k)) ⌝ }
     ensures largest { λ x. ⌜ x ≡ largestInRow (rowAt (now (left .entry)) k) (rowAt (now (right .entry)) k) known k figuresOfRow ⌝ }
 {
@@ -117,7 +131,7 @@ fn compare_rows(left: &[u8], right: &[u8], count: usize, run: &mut [u64]) -> Lar
     largest
 }
 
-// Two sound files: 51 where they do not have as many rows, 26 where the run is too short for what is told of them.
+// Two sound files: 51 where their row counts differ, 26 where the run is too short for their words.
 fn compare_sound(left: &[u8], right: &[u8], run: &mut [u64]) -> Comparison
     requires { ⌜ (resultsCheck (now left) ≡ Check.Sound) × (resultsCheck (now right) ≡ Check.Sound) ⌝ }
     ensures comparison { λ r. ⌜ r ≡ comparisonOf (now (left .entry)) (now (right .entry)) (length (now (run .entry))) ⌝ }
@@ -159,7 +173,7 @@ fn compare_with(left: &[u8], right: &[u8], run: &mut [u64]) -> Comparison
     }
 }
 
-// What is told of two result files, row by row to a lent run, which a refusal leaves as it was.
+// Two result files compared, row by row to a lent run, which a refusal leaves as it was.
 pub fn compare(left: &[u8], right: &[u8], run: &mut [u64]) -> Comparison
     ensures comparison { λ r. ⌜ r ≡ comparisonOf (now (left .entry)) (now (right .entry)) (length (now (run .entry))) ⌝ }
     ensures run { λ _. ⌜ now (run .exit) ≡ runAfter (now (left .entry)) (now (right .entry)) (now (run .entry)) ⌝ }

@@ -39,7 +39,7 @@ other-edition : Reads (2 ∷ 17 ∷ []) (reading.Refused 22 0)
 unfolding readingOf asBytes
 other-edition = refl
 
--- 23: 17 centres, at the count word; 16 go on, and the first of their words is not there.
+-- 23: 17 centres, at the count word; 16 pass, and the first of their words is missing.
 centres-17 : Reads (1 ∷ 17 ∷ []) (reading.Refused 23 8)
 unfolding readingOf asBytes
 centres-17 = refl
@@ -48,7 +48,7 @@ centres-16 : Reads (1 ∷ 16 ∷ []) (reading.Refused 21 16)
 unfolding readingOf asBytes
 centres-16 = refl
 
--- 24: state 0 of two names centre 1 of one, at that word, before a word of state 1 is missed; a request names state 0 of none.
+-- 24: state 0 of two names centre 1 of one centre, at that word, before a word of state 1 is missed; a request names state 0 of no states.
 no-such-centre : Reads (1 ∷ 1 ∷ 398600 ∷ 2 ∷ 1 ∷ 7 ∷ 1 ∷ 2 ∷ 3 ∷ 4 ∷ 5 ∷ 6 ∷ []) (reading.Refused 24 32)
 unfolding readingOf asBytes
 no-such-centre = refl

@@ -31,7 +31,7 @@ fileCheck file =
     ⟫ sectionCheck file (requestsPlace centres states) Requests states
     ⟫ endCheck file (endPlace centres states requests)
 
--- Where the sections stand that have these counts.
+-- Where sections with these counts stand.
 abbrev pub placesOf : ℕ → ℕ → ℕ → Places
 placesOf centres states requests =
     record {
@@ -56,7 +56,7 @@ unfoldable pub readingOf : List ℕ → Reading
 unfolding fileCheck sectionsOf
 readingOf file = readingBy (fileCheck file) (sectionsOf file)
 
--- ---- What the reader's inner steps answer: that chain from any section on, each where the one before it ends; and the sections by their order.
+-- ---- What the reader's inner steps answer: the chain of checks from any section on, each where the one before it ends; and the sections in their order.
 unfoldable pub sectionsCheck : List ℕ → (place below : ℕ) → List Section → Check
 unfolding countedCheck wordAt
 sectionsCheck file place below [] = endCheck file place

@@ -1,5 +1,5 @@
--- Document 01's marked cases, P1 to P12 and P10's whole result file, and some of T-04 and T-05: what each asks, what it must give, and one statement, computed from the
--- definitions.
+-- Document 01's marked cases, P1 to P12 and P10's whole result file, and some of T-04 and T-05: what each asks, what it must give, and one
+-- statement, computed from the definitions.
 use mathlib.Core.Path.{_≡_, refl}
 use mathlib.Core.List.{List, [], _∷_, _++_, map}
 use Prim.Native.Nat.{ℕ}
@@ -18,7 +18,19 @@ use Rattle.states_revolutions.specs.Revolutions.{revolutionOf, isClosed, isUsab
 use Rattle.states_arcs.specs.Results.{factorsOf, endStateOf, arcOf, accelerationOf, resultsOf, figuresOf, endedOf}
 use Rattle.states_start.specs.Given.{readOf}
 use Rattle.states_start.specs.Initial.{dot, begunOf, firstStepOf}
-use Rattle.states.specs.Call.{refused, answered, reachedFound, reachedOverBy, reachedFromBy, reachedOrbitBy, reachedWordsBy, endedAnswer, propagateBy, propagateOf, answerWords}
+use Rattle.states.specs.Call.{
+  refused,
+  answered,
+  reachedFound,
+  reachedOverBy,
+  reachedFromBy,
+  reachedOrbitBy,
+  reachedWordsBy,
+  endedAnswer,
+  propagateBy,
+  propagateOf,
+  answerWords,
+}
 use Rattle.files_words.specs.Bytes.{asBytes}
 use Rattle.files_reader.specs.Reader.{readingOf}
 use Rattle.files_results.specs.Requests.{requestWords}
@@ -71,16 +83,16 @@ abbrev staysWith : (points psi : ℕ) → List ℕ
 staysWith points psi =
     0 ∷ points ∷ one ∷ 0 ∷ 0 ∷ 0 ∷ 0 ∷ 0 ∷ minusZero ∷ minusZero ∷ minusZero ∷ minusZero ∷ minusZero ∷ minusZero ∷ psi ∷ []
 
--- T-04: a circle, μ = 1, position (1,0,0), velocity (0,1,0), whose period is 2·π as a double. After three of them, forward or back, it is where it began, "ψ is +0 with no
--- points", and the figures can be worked out by hand.
+-- T-04: a circle, μ = 1, position (1,0,0), velocity (0,1,0), whose period is 2·π as a double. After three periods, forward or back, it is where it began, "ψ is
+-- +0 with no points", and the figures can be worked out by hand.
 abbrev around : (tau : ℕ) → List ℕ
 around tau = one ∷ one ∷ 0 ∷ 0 ∷ 0 ∷ one ∷ 0 ∷ tau ∷ []
 
 abbrev comesRound : List ℕ
 comesRound = 0 ∷ 0 ∷ one ∷ 0 ∷ 0 ∷ 0 ∷ one ∷ 0 ∷ minusOne ∷ minusZero ∷ minusZero ∷ minusOne ∷ minusZero ∷ minusZero ∷ 0 ∷ []
 
--- T-05: a file in which each request has one word that is NaN or infinite: its centre's μ; x to vz of its state; its state's epoch; its own time. The last has none: without a force, and thrown so slowly that
--- the square of its speed is zero, it goes as P10 does, from 1 s to 2 s, and what it has gone by then is its velocity times 1 s.
+-- T-05: a file in which each request has one word that is NaN or infinite: its centre's μ; x to vz of its state; its state's epoch; its own time. The last has
+-- none: without a force, and so slow that the square of its speed is zero, it goes as P10 does, from 1 s to 2 s, by its velocity times 1 s.
 abbrev nan : ℕ
 nan = 0x7ff8000000000000
 
@@ -120,7 +132,8 @@ badWords =
 abbrev badRows : List ℕ
 badRows =
     1 ∷ 10
-    ∷ (refusedRow 31 ++ (refusedRow 32 ++ (refusedRow 33 ++ (refusedRow 34 ++ (refusedRow 35 ++ (refusedRow 36 ++ (refusedRow 37 ++ (refusedRow 38 ++ (refusedRow 38
+    ∷ (refusedRow 31 ++ (refusedRow 32 ++ (refusedRow 33 ++ (refusedRow 34 ++ (refusedRow 35
+    ++ (refusedRow 36 ++ (refusedRow 37 ++ (refusedRow 38 ++ (refusedRow 38
     ++ (0 ∷ 21 ∷ one ∷ slow ∷ slower ∷ 0 ∷ slow ∷ slower ∷ minusZero ∷ minusZero ∷ minusZero ∷ []))))))))))
 
 -- ---- The table.
@@ -160,5 +173,10 @@ table =
 
 -- Each case of the table gives what it must.
 pub marked : map (λ (c : Case). given (c .asked)) table ≡ map (λ (c : Case). c .must) table
-unfolding resultFile readingOf rowsOf rowOf requestWords propagateBy answerWords reachedWordsBy reachedOrbitBy reachedFromBy reachedOverBy reachedFound intervalOf withoutRevolutions withoutN asItIs floorOf courseOf isClosed isUsable revolutionOf ofInt endedAnswer answered refused readOf begunOf dot firstStepOf endedOf figuresOf resultsOf accelerationOf arcOf endStateOf factorsOf has firstOf searchChoosing history inward round halving outward onward counted trialAt evaluatedAt sortOf anomalyAt timeErrorOf radiusOf coefficientsOf sumsOf quotientsOf doublings atReduced c4Of c5Of nested reducedFrom beyondOne rootOf rootWordOf asBytes add sub mul div neg lt eq ne ofBits toBits
+unfolding
+    resultFile readingOf rowsOf rowOf requestWords propagateBy answerWords reachedWordsBy reachedOrbitBy reachedFromBy reachedOverBy reachedFound
+    intervalOf withoutRevolutions withoutN asItIs floorOf courseOf isClosed isUsable revolutionOf ofInt endedAnswer answered refused readOf begunOf
+    dot firstStepOf endedOf figuresOf resultsOf accelerationOf arcOf endStateOf factorsOf has firstOf searchChoosing history inward round halving
+    outward onward counted trialAt evaluatedAt sortOf anomalyAt timeErrorOf radiusOf coefficientsOf sumsOf quotientsOf doublings atReduced c4Of c5Of
+    nested reducedFrom beyondOne rootOf rootWordOf asBytes add sub mul div neg lt eq ne ofBits toBits
 marked = refl

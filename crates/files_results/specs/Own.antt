@@ -1,4 +1,5 @@
--- T-07: what we write can be compared. The result file of an accepted element file is a sound one, with a row for each request; "the three words of a refused file are 25".
+-- T-07: what we write can be compared. The result file of an accepted element file is a sound one, with a row for each request;
+-- "the three words of a refused file are 25".
 use mathlib.Core.Path.{_≡_}
 use mathlib.Core.List.{List}
 use Prim.Native.Nat.{ℕ}

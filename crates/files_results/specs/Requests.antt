@@ -38,6 +38,6 @@ eightWords file request state centre =
 unfoldable pub requestWords : List ℕ → Places → (k : ℕ) → List ℕ
 requestWords file places k = eightWords file (requestPlace places k) (statePlace file places k) (centrePlace file places k)
 
--- ---- What the code's inner step answers: a place as far as the end, where nothing stands any more.
+-- ---- What the code's inner step answers: a place, but none beyond the end, where nothing stands.
 unfoldable pub asFarAs : (end place : ℕ) → ℕ
 asFarAs end place = pick (leb place end) place end

@@ -1,5 +1,5 @@
--- Document 01: "The program writes edition 1, the request count, then per request 11 words: refusal or 0, points, position, velocity, end acceleration. A refused
--- file gives three words: 1, 0, its number."
+-- Document 01: "The program writes edition 1, the request count, then per request 11 words: refusal or 0, points, position, velocity, end acceleration. A
+-- refused file gives three words: 1, 0, its number."
 use mathlib.Core.Path.{_≡_, refl}
 use mathlib.Core.List.{List, [], _∷_, _++_}
 use Prim.Native.Nat.{ℕ, zero, suc, _<_}
@@ -30,7 +30,7 @@ refusedWords = 3
 abbrev pub longestResult : ℕ
 longestResult = rowPlace (limitOf Requests)
 
--- ---- "per request 11 words: refusal or 0, points, position, velocity, end acceleration": the first eleven of an answer's.
+-- ---- "per request 11 words: refusal or 0, points, position, velocity, end acceleration": the first eleven words of an answer.
 unfoldable pub rowOf : List ℕ → List ℕ
 rowOf words = take rowWords (answerWords (propagateOf words))
 
@@ -38,8 +38,8 @@ rowOf words = take rowWords (answerWords (propagateOf words))
 abbrev pub refusedRow : (refusal : ℕ) → List ℕ
 refusedRow refusal = refusal ∷ 0 ∷ 0 ∷ 0 ∷ 0 ∷ 0 ∷ 0 ∷ 0 ∷ 0 ∷ 0 ∷ 0 ∷ []
 
--- T-05, of a row: it tells the first figure that is NaN or infinite, exactly where there is one. By `eightWords` μ is the centre's, x to vz are the state's, and τ is of the request's time
--- and the state's epoch.
+-- T-05, for a row: it names the first figure that is NaN or infinite, exactly where there is one. By `eightWords` μ is the centre's, x to vz are the state's,
+-- and τ comes from the request's time and the state's epoch.
 abbrev pub RowsName : Type 0
 RowsName =
     (file : List ℕ) (places : Places) (k figure : ℕ) →

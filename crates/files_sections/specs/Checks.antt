@@ -1,5 +1,5 @@
--- Document 01, "Element file, edition 1": what a check finds, and the check of what stands after a count word. It is one check for every counted section of every
--- file: the limit of its count, the words of a record and the rule for its words are given.
+-- Document 01, "Element file, edition 1": what a check finds, and the check of what stands after a count word. It is one check for every counted section of
+-- every file: the limit of its count, the words of a record and the rule for its words are given.
 use Prim.Native.Nat.{ℕ, zero, suc, _+_, _*_, _%_}
 use mathlib.Core.Bool.{Bool, true, false}
 use mathlib.Core.List.{List, [], _∷_, _++_}
@@ -12,8 +12,8 @@ use Rattle.files_sections.specs.declared.checks.Check.the-variants.{Soun
 use Rattle.files_sections.specs.declared.checks.Rule.{Rule}
 use Rattle.files_sections.specs.declared.checks.Rule.the-variants.{Any, Numbers}
 
--- ---- Checks: nothing wrong, or a refusal's number and its place. What has to hold; what a word's rule tells, 0 being nothing; one check before another, where
--- the first fault is the refusal.
+-- ---- Checks: nothing wrong, or a refusal's number and its place. `need`: what has to hold; `told`: what a word's rule says, 0 being nothing; `⟫`: one check,
+-- then another, where the first fault is the refusal.
 
 abbrev pub need : Bool → ℕ → ℕ → Check
 need true number place = Sound
@@ -28,9 +28,9 @@ abbrev pub _⟫_ : Check → Check → Check
 Sound ⟫ next = next
 Fault number place ⟫ next = Fault number place
 
--- ---- The walk over the words of a section, one walk for every section. A ruling is the refusal of a word by the words of its section before it, in their order; 0
--- where it has none. So many words are left of the section, the next stands at a place, and these are the words that there are from there on. "21 a needed word
--- not whole"; "The place of a refusal is the first byte of the word at fault".
+-- ---- The walk over the words of a section, one walk for every section. A ruling gives the refusal of a word, or 0, by the words of its section before it, in
+-- their order. `left` words of the section are left, the next stands at `place`, and `words` are those of the file from there on. "21 a needed word not whole";
+-- "The place of a refusal is the first byte of the word at fault".
 
 abbrev pub Ruling : Type 0
 Ruling = (before : List ℕ) (word : ℕ) → ℕ
@@ -40,7 +40,7 @@ walk ruling place before zero ws = Sound
 walk ruling place before (suc left) [] = Fault 21 place
 walk ruling place before (suc left) (w ∷ ws) = told (ruling before w) place ⟫ walk ruling (place + 8) (before ++ (w ∷ [])) left ws
 
--- ---- "each after its count": at a place stands a count, within its limit ("23 count above limit"), then the words of so many records.
+-- ---- "each after its count": a count stands at a place, within its limit ("23 count above limit"), then the words of that many records.
 
 unfoldable pub countCheck : List ℕ → (place limit : ℕ) → Check
 unfolding wordAt
@@ -61,8 +61,8 @@ unfoldable pub editionCheck : List ℕ → (edition : ℕ) → Check
 unfolding wordAt
 editionCheck file edition = need (leb 8 (length file)) 21 0 ⟫ need (eqb (wordAt file 0) edition) 22 0
 
--- ---- The rules: "Float words may hold any bits"; "24 number not in its section", "Numbers start at 0". Word j of a section, the first being word 0, is the first
--- of its record where records of `width` words begin there. It is the number of one of `below` records, or its refusal is 24.
+-- ---- The rules: "Float words may hold any bits"; "24 number not in its section", "Numbers start at 0". Word j of a section, from 0, is the first of its
+-- record where `width` divides j. It is then the number of one of `below` records, or its refusal is 24.
 
 abbrev pub begins : (width j : ℕ) → Bool
 begins zero j = false
@@ -85,7 +85,8 @@ filledCheck file place limit width =
     countedCheck file place limit width (rulingOf Any)
     ⟫ endCheck file (place + 8 + 8 * (wordAt file place * width))
 
--- ---- What the code's inner steps answer: so many words of any bits from a place on, and then the file's end; the refusal of word j, which a file has at a place, or 0.
+-- ---- What the code's inner steps answer: `count` words of any bits from a place on, and then the file's end; and the refusal
+-- of word j, which stands at a place, or 0.
 abbrev pub restCheck : List ℕ → (place count : ℕ) → Check
 restCheck file place count = walk (rulingOf Any) place [] count (wordsFrom file place) ⟫ endCheck file (place + 8 * count)
 

@@ -1,4 +1,4 @@
--- Records of any kind, as the words of a file: those of each, one after another.
+-- Records of any kind as the words of a file: the words of one record after another.
 use mathlib.Core.List.{List, [], _∷_, _++_}
 use Prim.Native.Nat.{ℕ}
 

@@ -1,5 +1,5 @@
--- Document 01: "The program writes edition 1, the request count, then per request 11 words: refusal or 0, points, position, velocity, end acceleration." Who writes
--- such a file and who compares two of them goes by these.
+-- Document 01: "The program writes edition 1, the request count, then per request 11 words: refusal or 0, points, position, velocity, end acceleration." The
+-- writer of such a file and the comparison of two of them use these.
 use Prim.Native.Nat.{ℕ, _+_, _*_}
 
 abbrev pub resultEdition : ℕ
@@ -21,7 +21,7 @@ rowPlace k = 8 * (headWords + rowWords * k)
 abbrev pub rowBytes : ℕ
 rowBytes = 8 * rowWords
 
--- The words of a row, by their names: position, velocity and end acceleration are nine figures, from one word on.
+-- The words of a row, by their names; position, velocity and end acceleration are nine figures from word `rowFigures` on.
 abbrev pub rowRefusal : ℕ
 rowRefusal = 0
 

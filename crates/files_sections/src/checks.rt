@@ -4,7 +4,20 @@ ghost use mathlib.Core.List.{[]};
 ghost use Prim.Native.Nat.{_+_, _*_, _^_, _<_, _≤_};
 ghost use lib.ListN.{length};
 ghost use Rattle.files_words.specs.Bytes.{wordsFrom};
-ghost use Rattle.files_sections.specs.Checks.{need, _⟫_, walk, countCheck, countedCheck, editionCheck, filledCheck, numberFault, faultOf, rulingOf, wordFault, restCheck};
+ghost use Rattle.files_sections.specs.Checks.{
+  need,
+  _⟫_,
+  walk,
+  countCheck,
+  countedCheck,
+  editionCheck,
+  filledCheck,
+  numberFault,
+  faultOf,
+  rulingOf,
+  wordFault,
+  restCheck,
+};
 use files_words::is_whole;
 use files_words::word_at;
 
@@ -104,7 +117,7 @@ fn check_count(file: &[u8], place: usize, limit: u16) -> Check
     )
 }
 
-// A section whose count word stands at a place: a count within its limit, then as many records of `width` words, whose words keep the rule.
+// A section whose count word stands at a place: a count within its limit, then that many records of `width` words, whose words keep the rule.
 pub fn check_counted(file: &[u8], place: usize, limit: u16, width: u16, rule: Rule) -> Check
     ensures { λ r. ⌜ r ≡ countedCheck (now (file .entry)) place limit width (rulingOf rule) ⌝ }
 {
@@ -116,7 +129,7 @@ pub fn check_counted(file: &[u8], place: usize, limit: u16, width: u16, rule: Ru
     walk_words(file, place + 8, words, rule)
 }
 
-// So many words of any bits from a place on, and nothing behind them. Words of which nothing is asked are not walked over: that all are there is a question of length.
+// So many words of any bits from a place on, and nothing behind them. Such words need no walk: the file's length tells whether all are there.
 fn check_rest(file: &[u8], place: usize, words: usize) -> Check
     requires { ⌜ (place ≤ length (now file)) × (words ≤ 2 ^ 32) ⌝ }
     ensures { λ r. ⌜ r ≡ restCheck (now (file .entry)) place words ⌝ }
@@ -132,7 +145,7 @@ fn check_rest(file: &[u8], place: usize, words: usize) -> Check
     need(file.len() <= end, 25, end)
 }
 
-// A count within its limit, as many records of `width` words, whose words may hold any bits, and nothing behind them.
+// A count within its limit, that many records of `width` words, whose words may hold any bits, and nothing behind them.
 pub fn check_filled(file: &[u8], place: usize, limit: u16, width: u16) -> Check
     ensures { λ r. ⌜ r ≡ filledCheck (now (file .entry)) place limit width ⌝ }
 {

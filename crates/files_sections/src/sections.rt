@@ -57,7 +57,7 @@ impl Section {
         }
     }
 
-    // What is asked of its words; `below` is how many records the section has that its numbers are of.
+    // What is asked of its words; `below` is how many records the section has that its numbers refer to.
     pub fn rule(self, below: usize) -> Rule
         ensures { λ r. ⌜ r ≡ ruleOf self below ⌝ }
     {
@@ -69,7 +69,7 @@ impl Section {
         }
     }
 
-    // The place after so many of its records, its count word standing at a place.
+    // The place after so many of its records, where its count word stands at `place`.
     pub fn after(self, place: u32, count: u16) -> usize
         ensures { λ r. ⌜ r ≡ after self place count ⌝ }
     {

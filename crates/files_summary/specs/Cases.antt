@@ -36,7 +36,7 @@ signallingNan = 0x7ff0000000000001
 abbrev pub subnormal : ℕ
 subnormal = 0x0000000000000001
 
--- The four words of a centre's entry, of these epochs.
+-- The four words of the entry of a centre with these epochs.
 abbrev pub Shows : (epochs words : List ℕ) → Type 0
 Shows epochs words = entryWords (entryBy epochs) ≡ words
 
@@ -58,7 +58,7 @@ infinities : Shows (one ∷ infinite ∷ minusInfinite ∷ []) (3 ∷ 0 ∷ minu
 unfolding entryBy isNan ofBits
 infinities = refl
 
--- ---- "minus zero and zero are one epoch, shown as zero"; numbers below zero are earlier, the larger their words.
+-- ---- "minus zero and zero are one epoch, shown as zero"; of two numbers below zero the one with the larger word is earlier.
 zeros : Shows (minusZero ∷ []) (1 ∷ 0 ∷ 0 ∷ 0 ∷ [])
 unfolding entryBy isNan ofBits
 zeros = refl

@@ -1,7 +1,7 @@
--- Document 02, T-02: "updated when a state is appended or withdrawn. A withdrawn state's followers move down one, and the last record freed keeps its words ..
--- After a change that centre's entry is the one worked out afresh and no other is touched .. Refusals: 27 when the state run hasn't room for exactly 500 records or
--- its count is above 500, then 41 when the lent list hasn't one entry per centre, 24 for a bad centre, then 42 when the state section is full or the state
--- withdrawn isn't there."
+-- Document 02, T-02: "updated when a state is appended or withdrawn. A withdrawn state's followers move down one, and the last record freed keeps its
+-- words .. After a change that centre's entry is the one worked out afresh and no other is touched .. Refusals: 27 when the state run hasn't room for
+-- exactly 500 records or its count is above 500, then 41 when the lent list hasn't one entry per centre, 24 for a bad centre, then 42 when the state
+-- section is full or the state withdrawn isn't there."
 use Prim.Native.Nat.{ℕ, zero, suc, _+_, _-_, _*_}
 use mathlib.Core.Bool.{Bool}
 use mathlib.Core.List.{List, [], _∷_, _++_}
@@ -30,7 +30,7 @@ lentRefusal words count listed next =
     (refuse listed 41
     next))
 
--- A record to append is exactly one, or it is 27 too.
+-- What is appended is exactly one record, or it is 27 too.
 unfoldable pub appendRefusal : (state : List ℕ) (words count centres : ℕ) (listed : Bool) → ℕ
 appendRefusal state words count centres listed =
     refuse (eqb (length state) (widthOf States)) 27
@@ -39,7 +39,7 @@ appendRefusal state words count centres listed =
     (refuse (ltb count (limitOf States)) 42
     0)))
 
--- The centre of the state to withdraw is looked at where that state is there.
+-- The centre of the state to withdraw is looked at only where that state is there.
 abbrev pub stateAt : (run : List ℕ) (which : ℕ) → List ℕ
 stateAt run which = take (widthOf States) (drop (which * widthOf States) run)
 
@@ -62,8 +62,8 @@ unfoldable pub withdrawnFrom : (run : List ℕ) (count which : ℕ) → List ℕ
 unfolding put
 withdrawnFrom run count which = put run (which * widthOf States) (followers run count which)
 
--- ---- What a change comes to: the number of its refusal or 0, the states in use afterwards, and the entry of the changed centre, worked out afresh. A refusal changes
--- nothing.
+-- ---- What a change comes to: the number of its refusal or 0, the states in use afterwards, and the entry of the changed centre,
+-- worked out afresh. A refusal changes nothing.
 abbrev pub refused : (number count : ℕ) → Change
 refused number count = record { number = number; count = count; at = 0; entry = noEntry }
 
@@ -94,7 +94,7 @@ unfoldable pub withdrawRun : (which : ℕ) (run : List ℕ) (count centres : ℕ
 unfolding withdrawRefusal withdrawnFrom
 withdrawRun which run count centres listed = unlessRefused (withdrawRefusal which run count centres listed) run (withdrawnFrom run count which)
 
--- The same beside a list of so many words, an entry having `width` of them; or of so many structs, with a width of 1.
+-- The same beside a list of `length` words, `width` to an entry; or of `length` structs, with a width of 1.
 abbrev pub appendBeside : (width length : ℕ) (state run : List ℕ) (count centres : ℕ) → Change
 appendBeside width length state run count centres = appendOf state run count centres (oneEach width length centres)
 
@@ -127,7 +127,7 @@ unfoldable pub asWords : List Summary → List ℕ
 asWords [] = []
 asWords (s ∷ ss) = entryWords s ++ asWords ss
 
--- `summary`: refusals 27 and 41; then the list, of words, is that of all centres.
+-- `summary`: refusals 27 and 41; then the list has the words of all centres' entries.
 abbrev pub summaryRefusal : (run : List ℕ) (count centres : ℕ) (list : List ℕ) → ℕ
 summaryRefusal run count centres list = lentRefusal (length run) count (oneEach entryWidth (length list) centres) 0
 

@@ -11,12 +11,12 @@ use Rattle.files_sections.specs.Sections.{limitOf, widthOf, stateCentre, stateE
 use Rattle.files_summary.specs.declared.entries.Summary.{Summary}
 use Rattle.files_summary.specs.declared.entries.Tally.{Tally}
 
--- ---- The states in use, each with its words: the first of a run that has room for more.
+-- ---- The states in use, each with its words: the first records of a run that has room for more.
 unfoldable pub inUse : (run : List ℕ) (count : ℕ) → List (List ℕ)
 inUse run zero = []
 inUse run (suc n) = take (widthOf States) run ∷ inUse (drop (widthOf States) run) n
 
--- What the code's inner steps go by: a run has so many states, and no more than a section may.
+-- What the code's inner steps need: a run has so many states, and no more than a section may have.
 abbrev pub Holds : (run : List ℕ) (count : ℕ) → Type 0
 Holds run count = (count ≤ limitOf States) × (count * widthOf States ≤ length run)
 
@@ -39,7 +39,7 @@ unfoldable pub nansIn : (epochs : List ℕ) → ℕ
 nansIn [] = 0
 nansIn (e ∷ es) = pick (isNanWord e) (1 + nansIn es) (nansIn es)
 
--- ---- The earliest and the latest of places, the first of which is given; shown as words, and +0 where there is none.
+-- ---- The earliest and the latest of some places, of which the first is given; shown as words, +0 where there is none.
 abbrev pub earlier : ℕ → ℕ → ℕ
 earlier a b = pick (ltb b a) b a
 
@@ -58,7 +58,7 @@ unfoldable pub shownBy : (ℕ → List ℕ → ℕ) → (places : List ℕ) → 
 shownBy choice [] = 0
 shownBy choice (p ∷ ps) = wordOn (choice p ps)
 
--- ---- The entry of a centre: by its epochs, worked out from the states in use; the one of no states; and the four words of one.
+-- ---- The entry of a centre: by its epochs; worked out from the states in use; that of no states; and the four words of an entry.
 unfoldable pub entryBy : (epochs : List ℕ) → Summary
 unfolding numbersIn nansIn earliest latest shownBy
 entryBy epochs =
@@ -78,8 +78,8 @@ noEntry = record { states = 0; nans = 0; earliest = 0; latest = 0 }
 abbrev pub entryWords : Summary → List ℕ
 entryWords s = s .states ∷ s .nans ∷ s .earliest ∷ s .latest ∷ []
 
--- ---- What the code gathers on its way over the states: the two counts, and the earliest and latest place so far. It begins with a place after all others, and one
--- before them.
+-- ---- What the code gathers on its way over the states: the two counts, and the earliest and latest place so far. It begins with an earliest
+-- after all places, and a latest before them.
 abbrev pub nothing : Tally
 nothing = record { states = 0; nans = 0; first = 2 ^ 64 - 1; last = 0 }
 

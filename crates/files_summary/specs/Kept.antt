@@ -1,5 +1,5 @@
--- What a station may count on, over any sequence of changes. Document 02, T-02: "After a change that centre's entry is the one worked out afresh and no other is
--- touched, so a right list stays right."
+-- What a station may count on, over any sequence of changes. Document 02, T-02: "After a change that centre's entry is the one worked out afresh and no other
+-- is touched, so a right list stays right."
 use Prim.Native.Nat.{ℕ, zero, suc, _+_, _-_, _*_, _^_, _<_, _≤_}
 use mathlib.Core.Path.{_≡_}
 use mathlib.Core.Bool.{Bool, true, false, not, _&&_}
@@ -14,7 +14,19 @@ use Rattle.files_sections.specs.declared.sections.Section.the-variants.{States}
 use Rattle.files_sections.specs.Sections.{widthOf}
 use Rattle.files_summary.specs.declared.entries.Summary.{Summary}
 use Rattle.files_summary.specs.Entries.{inUse, centreOf, epochOf, entryOf, noEntry, entryWords}
-use Rattle.files_summary.specs.Changes.{oneEach, summaryRefusal, appendRefusal, withdrawRefusal, stateAt, appendedTo, withdrawnFrom, appendBeside, appendRunBeside, withdrawBeside, withdrawRunBeside}
+use Rattle.files_summary.specs.Changes.{
+  oneEach,
+  summaryRefusal,
+  appendRefusal,
+  withdrawRefusal,
+  stateAt,
+  appendedTo,
+  withdrawnFrom,
+  appendBeside,
+  appendRunBeside,
+  withdrawBeside,
+  withdrawRunBeside,
+}
 use Rattle.files_summary.specs.Changes.{settledBy, entryWidth, putEntry, entriesOf, asWords}
 
 -- ---- A change that is asked for: a state to append, or the number of one to withdraw.
@@ -28,15 +40,19 @@ pub record Kept (A : Type 0) : Type 0 where
   pub count : ℕ
   pub list : List A
 
--- A change, and changes one after another, by what the functions promise: over a list of structs, with a width of 1 and `set`, and over its words, with a width of 4 and
--- `putEntry`.
+-- A change, and changes one after another, by what the functions promise: over a list of structs, with a width of 1 and `set`, and over its
+-- words, with a width of 4 and `putEntry`.
 unfoldable pub changeBy : {A : Type 0} (width : ℕ) (store : List A → ℕ → Summary → List A) (centres : ℕ) → Asked → Kept A → Kept A
 changeBy width store centres (append state) k =
     let change = appendBeside width (length (k .list)) state (k .run) (k .count) centres in
     record { run = appendRunBeside width (length (k .list)) state (k .run) (k .count) centres; count = change .count; list = settledBy store (k .list) change }
 changeBy width store centres (withdraw which) k =
     let change = withdrawBeside width (length (k .list)) which (k .run) (k .count) centres in
-    record { run = withdrawRunBeside width (length (k .list)) which (k .run) (k .count) centres; count = change .count; list = settledBy store (k .list) change }
+    record {
+      run = withdrawRunBeside width (length (k .list)) which (k .run) (k .count) centres;
+      count = change .count;
+      list = settledBy store (k .list) change;
+    }
 
 unfoldable pub changesBy : {A : Type 0} (width : ℕ) (store : List A → ℕ → Summary → List A) (centres : ℕ) → List Asked → Kept A → Kept A
 changesBy width store centres [] k = k
@@ -76,9 +92,11 @@ pub record WithdrawRefused (which : ℕ) (run : List ℕ) (count centres : ℕ) 
   pub no-section : (length run ≡ 4000 → ⊥) → withdrawRefusal which run count centres listed ≡ 27
   pub too-many : 500 < count → withdrawRefusal which run count centres listed ≡ 27
   pub no-list : Roomy (length run) count → listed ≡ false → withdrawRefusal which run count centres listed ≡ 41
-  pub no-centre : Roomy (length run) count → listed ≡ true → which < count → centres ≤ centreOf (stateAt run which) → withdrawRefusal which run count centres listed ≡ 24
+  pub no-centre : Roomy (length run) count → listed ≡ true → which < count → centres ≤ centreOf (stateAt run which) →
+      withdrawRefusal which run count centres listed ≡ 24
   pub not-there : Roomy (length run) count → listed ≡ true → count ≤ which → withdrawRefusal which run count centres listed ≡ 42
-  pub none : Roomy (length run) count → listed ≡ true → which < count → centreOf (stateAt run which) < centres → withdrawRefusal which run count centres listed ≡ 0
+  pub none : Roomy (length run) count → listed ≡ true → which < count → centreOf (stateAt run which) < centres →
+      withdrawRefusal which run count centres listed ≡ 0
 
 pub record SummaryRefused (run : List ℕ) (count centres : ℕ) (list : List ℕ) : Type 0 where
   pub no-section : (length run ≡ 4000 → ⊥) → summaryRefusal run count centres list ≡ 27
@@ -92,14 +110,14 @@ RefusesInOrder =
     × ((which : ℕ) (run : List ℕ) (count centres : ℕ) (listed : Bool) → WithdrawRefused which run count centres listed)
     × ((run : List ℕ) (count centres : ℕ) (list : List ℕ) → SummaryRefused run count centres list)
 
--- A refusal changes nothing, of a list of either kind.
+-- A refusal changes nothing, whichever kind the list is.
 abbrev pub RefusedStays : Type 1
 RefusedStays =
     (A : Type 0) (width : ℕ) (store : List A → ℕ → Summary → List A) (centres : ℕ) (asked : Asked) (k : Kept A) →
     (refusalAsked width centres asked k ≡ 0 → ⊥) → changeBy width store centres asked k ≡ k
 
--- ---- The states in use, by the run: one more at the end, or one fewer, its followers one lower; and no other word is touched, those of the last record freed
--- among them.
+-- ---- The states in use, in the run: one more at the end, or one fewer, its followers one lower. No other word is touched,
+-- not even those of the last record freed.
 unfoldable pub without : {A : Type 0} → List A → ℕ → List A
 without [] n = []
 without (x ∷ xs) zero = xs
@@ -121,15 +139,17 @@ StatesMove =
     ((state : List ℕ) → length state ≡ widthOf States → (count + 1) * widthOf States ≤ length run → OneMore run count state)
     × ((which : ℕ) → which < count → count * widthOf States ≤ length run → OneFewer run count which)
 
--- ---- Whatever the list holds, right or wrong: a change that is made leaves the entry of its centre as worked out from the states as they then stand, and every other
--- entry, or word, as it was.
+-- ---- Whatever the list holds, right or wrong: a change that is made leaves the entry of its centre as worked out from the states as they then stand,
+-- and every other entry, or word, as it was.
 pub record Anew (asked : Asked) (k after : Kept Summary) : Type 0 where
   pub its-own : getD (after .list) (centreAsked asked k) noEntry ≡ entryOf (centreAsked asked k) (inUse (after .run) (after .count))
   pub others : (d : ℕ) → (d ≡ centreAsked asked k → ⊥) → getD (after .list) d noEntry ≡ getD (k .list) d noEntry
   pub as-many : length (after .list) ≡ length (k .list)
 
 pub record AnewInWords (asked : Asked) (k after : Kept ℕ) : Type 0 where
-  pub its-own : take entryWidth (drop (centreAsked asked k * entryWidth) (after .list)) ≡ entryWords (entryOf (centreAsked asked k) (inUse (after .run) (after .count)))
+  pub its-own :
+      take entryWidth (drop (centreAsked asked k * entryWidth) (after .list))
+      ≡ entryWords (entryOf (centreAsked asked k) (inUse (after .run) (after .count)))
   pub words-before : take (centreAsked asked k * entryWidth) (after .list) ≡ take (centreAsked asked k * entryWidth) (k .list)
   pub words-behind : drop (suc (centreAsked asked k) * entryWidth) (after .list) ≡ drop (suc (centreAsked asked k) * entryWidth) (k .list)
 
@@ -153,23 +173,26 @@ RightStays = (centres : ℕ) (asked : List Asked) (k : Kept Summary) → Right c
 abbrev pub RightWordsStay : Type 0
 RightWordsStay = (centres : ℕ) (asked : List Asked) (k : Kept ℕ) → RightWords centres k → RightWords centres (changesBy entryWidth putEntry centres asked k)
 
--- The words of a list of structs. Over them every change comes to the words of what it comes to over the structs: both kinds of functions keep one list.
+-- The words of a list of structs. A change over them gives the words of what it gives over the structs: both kinds of functions keep one list.
 abbrev pub inWords : Kept Summary → Kept ℕ
 inWords k = record { run = k .run; count = k .count; list = asWords (k .list) }
 
 abbrev pub OneList : Type 0
-OneList = (centres : ℕ) (asked : List Asked) (k : Kept Summary) → changesBy entryWidth putEntry centres asked (inWords k) ≡ inWords (changesBy 1 set centres asked k)
+OneList =
+    (centres : ℕ) (asked : List Asked) (k : Kept Summary) →
+    changesBy entryWidth putEntry centres asked (inWords k) ≡ inWords (changesBy 1 set centres asked k)
 
--- ---- A state that is appended, and then withdrawn: the states in use are those before; of a list of either kind, whose length no entry changes.
+-- ---- Where a state is appended and then withdrawn, the states in use are those before; beside a list of either kind, whose length no entry changes.
 abbrev pub GivenBack : Type 1
 GivenBack =
-    (A : Type 0) (width : ℕ) (store : List A → ℕ → Summary → List A) → ((list : List A) (at : ℕ) (entry : Summary) → length (store list at entry) ≡ length list) →
+    (A : Type 0) (width : ℕ) (store : List A → ℕ → Summary → List A) →
+    ((list : List A) (at : ℕ) (entry : Summary) → length (store list at entry) ≡ length list) →
     (centres : ℕ) (state : List ℕ) (k : Kept A) → refusalAsked width centres (append state) k ≡ 0 →
     let after = changesBy width store centres (append state ∷ withdraw (k .count) ∷ []) k in
     (after .count ≡ k .count) × (inUse (after .run) (after .count) ≡ inUse (k .run) (k .count))
 
--- ---- What an entry says of the states. How many there are of the centre whose epoch is a number, and whose epoch is a NaN; by doubles, no state with a number for an
--- epoch is earlier than the earliest, and one is as early; of the latest likewise. Neither is ever minus zero, and both are +0 where there is no number.
+-- ---- What an entry says of the states: how many states of the centre have a number for an epoch, and how many a NaN; as doubles, none of these numbers is
+-- earlier than the earliest, and one is as early; likewise for the latest. Neither is ever minus zero, and both are +0 where there is no number.
 unfoldable pub howMany : (List ℕ → Bool) → List (List ℕ) → ℕ
 howMany test [] = 0
 howMany test (s ∷ ss) = pick (test s) (1 + howMany test ss) (howMany test ss)

@@ -39,7 +39,7 @@ fn later(a: u64, b: u64) -> u64
     if a < b { b } else { a }
 }
 
-// With one epoch more.
+// A tally with one epoch more.
 fn with_epoch(tally: Tally, epoch: u64) -> Tally
     requires { ⌜ (tally .states + 1 < 2 ^ 64) × (tally .nans + 1 < 2 ^ 64) ⌝ }
     ensures { λ r. ⌜ r ≡ withEpoch tally epoch ⌝ }
@@ -61,7 +61,7 @@ fn with_epoch(tally: Tally, epoch: u64) -> Tally
     }
 }
 
-// With one state more, which counts where its centre's number is this centre's.
+// A tally with one state more, which counts where its centre's number is this centre's.
 fn with_state(tally: Tally, centre: u64, its: u64, epoch: u64) -> Tally
     requires { ⌜ (tally .states + 1 < 2 ^ 64) × (tally .nans + 1 < 2 ^ 64) ⌝ }
     ensures { λ r. ⌜ r ≡ withState tally centre its epoch ⌝ }
@@ -72,7 +72,7 @@ fn with_state(tally: Tally, centre: u64, its: u64, epoch: u64) -> Tally
     with_epoch(tally, epoch)
 }
 
-// What the states in use have of a centre.
+// The tally of a centre over the states in use.
 fn gather(states: &[u64], count: usize, centre: u64) -> Tally
     requires { ⌜ Holds (now states) count ⌝ }
     ensures { λ r. ⌜ r ≡ gathered nothing (epochsOf centre (inUse (now (states .entry)) count)) ⌝ }

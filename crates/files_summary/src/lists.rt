@@ -1,5 +1,5 @@
-// A list of entries kept beside a run of states, as document 01 names its form: a slice of summary structs, updated at one entry. The update itself is by value, in
-// `changes`; what takes the slice is thin.
+// A list of entries kept beside a run of states, in the form that document 01 names: a slice of summary structs, updated at one entry. The update itself is by
+// value, in `changes`; the functions over the slice are thin.
 ghost use mathlib.Core.Path.{_≡_};
 ghost use Prim.Native.Nat.{_<_};
 ghost use lib.ListN.{length, set};
@@ -30,7 +30,8 @@ pub fn append(
 ) -> Change
     ensures change { λ r. ⌜ r ≡ appendBeside 1 (length (now (list .entry))) (now (state .entry)) (now (states .entry)) count centres ⌝ }
     ensures states { λ _. ⌜ now (states .exit) ≡ appendRunBeside 1 (length (now (list .entry))) (now (state .entry)) (now (states .entry)) count centres ⌝ }
-    ensures list { λ _. ⌜ now (list .exit) ≡ settledBy set (now (list .entry)) (appendBeside 1 (length (now (list .entry))) (now (state .entry)) (now (states .entry)) count centres) ⌝ }
+    ensures list { λ _. ⌜ now (list .exit)
+        ≡ settledBy set (now (list .entry)) (appendBeside 1 (length (now (list .entry))) (now (state .entry)) (now (states .entry)) count centres) ⌝ }
 {
     let listed = list.len() as u64 == centres;
     settle(list, append_state(state, states, count, centres, listed))
@@ -46,7 +47,8 @@ pub fn withdraw(
 ) -> Change
     ensures change { λ r. ⌜ r ≡ withdrawBeside 1 (length (now (list .entry))) which (now (states .entry)) count centres ⌝ }
     ensures states { λ _. ⌜ now (states .exit) ≡ withdrawRunBeside 1 (length (now (list .entry))) which (now (states .entry)) count centres ⌝ }
-    ensures list { λ _. ⌜ now (list .exit) ≡ settledBy set (now (list .entry)) (withdrawBeside 1 (length (now (list .entry))) which (now (states .entry)) count centres) ⌝ }
+    ensures list { λ _. ⌜ now (list .exit)
+        ≡ settledBy set (now (list .entry)) (withdrawBeside 1 (length (now (list .entry))) which (now (states .entry)) count centres) ⌝ }
 {
     let listed = list.len() as u64 == centres;
     settle(list, withdraw_state(which, states, count, centres, listed))

@@ -82,8 +82,10 @@ pub fn append(
     centres: u64,
 ) -> Change
     ensures change { λ r. ⌜ r ≡ appendBeside entryWidth (length (now (list .entry))) (now (state .entry)) (now (states .entry)) count centres ⌝ }
-    ensures states { λ _. ⌜ now (states .exit) ≡ appendRunBeside entryWidth (length (now (list .entry))) (now (state .entry)) (now (states .entry)) count centres ⌝ }
-    ensures list { λ _. ⌜ now (list .exit) ≡ settledBy putEntry (now (list .entry)) (appendBeside entryWidth (length (now (list .entry))) (now (state .entry)) (now (states .entry)) count centres) ⌝ }
+    ensures states { λ _. ⌜ now (states .exit)
+        ≡ appendRunBeside entryWidth (length (now (list .entry))) (now (state .entry)) (now (states .entry)) count centres ⌝ }
+    ensures list { λ _. ⌜ now (list .exit) ≡ settledBy putEntry (now (list .entry))
+        (appendBeside entryWidth (length (now (list .entry))) (now (state .entry)) (now (states .entry)) count centres) ⌝ }
 {
     let listed = one_each(list.len(), centres);
     let change = append_state(state, states, count, centres, listed);
@@ -101,7 +103,8 @@ pub fn withdraw(
 ) -> Change
     ensures change { λ r. ⌜ r ≡ withdrawBeside entryWidth (length (now (list .entry))) which (now (states .entry)) count centres ⌝ }
     ensures states { λ _. ⌜ now (states .exit) ≡ withdrawRunBeside entryWidth (length (now (list .entry))) which (now (states .entry)) count centres ⌝ }
-    ensures list { λ _. ⌜ now (list .exit) ≡ settledBy putEntry (now (list .entry)) (withdrawBeside entryWidth (length (now (list .entry))) which (now (states .entry)) count centres) ⌝ }
+    ensures list { λ _. ⌜ now (list .exit) ≡ settledBy putEntry (now (list .entry))
+        (withdrawBeside entryWidth (length (now (list .entry))) which (now (states .entry)) count centres) ⌝ }
 {
     let listed = one_each(list.len(), centres);
     let change = withdraw_state(which, states, count, centres, listed);

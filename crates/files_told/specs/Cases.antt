@@ -37,7 +37,7 @@ distances =
     ∷ apart (minusZero + 1) 0 1
     ∷ apart 1 (minusZero + 1) 2
     ∷ apart (minusZero + 3) 4 7
-    -- From 1 to 2 and from 2 to 4 there are as many doubles.
+    -- There are as many doubles from 1 to 2 as from 2 to 4.
     ∷ apart one 0x4000000000000000 0x0010000000000000
     ∷ apart 0x4000000000000000 0x4010000000000000 0x0010000000000000
     ∷ apart one minusOne (2 * one)

@@ -1,5 +1,5 @@
--- Document 02, T-07: "the distance in last places, taken on the number line of finite doubles where both zeros are one place". The line is that of `bits`: `lineOf` is the
--- index of a word on it.
+-- Document 02, T-07: "the distance in last places, taken on the number line of finite doubles where both zeros are one place". The line is that of
+-- `bits`: `lineOf` is the index of a word on it.
 use mathlib.Core.Path.{_≡_}
 use mathlib.Core.Bool.{true}
 use Prim.Native.Nat.{ℕ, _+_, _-_, _*_, _^_, _≤_, _<_}
@@ -8,11 +8,11 @@ use Rattle.bits.specs.Arithmetic.{isFinite}
 use Rattle.bits.specs.Words.{infinity}
 use Rattle.bits.specs.Line.{lineOf}
 
--- How far two words are apart on the line. One of the two differences is 0, as a difference below zero is.
+-- How far two words are apart on the line. One of the two differences is 0, since a difference below zero counts as 0.
 abbrev pub distanceOf : (v w : ℕ) → ℕ
 distanceOf v w = (lineOf v - lineOf w) + (lineOf w - lineOf v)
 
--- ---- What a distance is, said of the numbers.
+-- ---- What a distance means for the numbers.
 
 -- A word of a finite double.
 pub record Finite (w : ℕ) : Type 0 where
@@ -32,7 +32,7 @@ Equal v w = eq (ofBits binary64 v) (ofBits binary64 w) ≡ true
 abbrev pub ZeroForEqual : Type 0
 ZeroForEqual = (v w : ℕ) → Finite v → Finite w → (distanceOf v w ≡ 0 → Equal v w) × (Equal v w → distanceOf v w ≡ 0)
 
--- The next double is 1 away: w is the next above v where no double is between them; and 1 is the distance of no others.
+-- The next double is at distance 1, and no other is: w is the next above v where no double is between them.
 pub record IsNext (v w : ℕ) : Type 0 where
   pub above : Less v w
   pub none-between : (u : ℕ) → Finite u → Less v u → Less u w → ⊥
@@ -40,7 +40,7 @@ pub record IsNext (v w : ℕ) : Type 0 where
 abbrev pub NextIsOne : Type 0
 NextIsOne = (v w : ℕ) → Finite v → Finite w → (IsNext v w → distanceOf v w ≡ 1) × (Less v w → distanceOf v w ≡ 1 → IsNext v w)
 
--- It is the number of steps: where u is not below v nor above w, the steps from v to w are those to u and those on from there.
+-- It is the number of steps: where u is not below v nor above w, the steps from v to w are those from v to u and those from u to w.
 abbrev pub AddsUp : Type 0
 AddsUp =
     (v u w : ℕ) → Finite v → Finite u → Finite w →

@@ -1,4 +1,4 @@
--- Document 02, T-07: what is told of a figure, of a row and of the largest distance, and the words of each case.
+-- Document 02, T-07: what a comparison says of a figure, of a row and of the largest distance, and the words of each case.
 use mathlib.Core.Bool.{Bool, _&&_}
 use mathlib.Core.List.{List, [], _∷_}
 use Prim.Native.Nat.{ℕ}
@@ -19,8 +19,8 @@ use Rattle.files_told.specs.declared.told.Side.the-variants as side
 use Rattle.files_told.specs.declared.told.Comparison.{Comparison}
 use Rattle.files_told.specs.declared.told.Comparison.the-variants as comparison
 
--- ---- Rows. "A row is refused when its first word isn't 0. Rows where just one side refused are listed apart", by kinds of their own. "Rows refused on both sides tell only whether the
--- numbers agree." By the first words of the two:
+-- ---- Rows. "A row is refused when its first word isn't 0. Rows where just one side refused are listed apart", by kinds of their own. "Rows refused on both
+-- sides tell only whether the numbers agree." By the rows' first words:
 unfoldable pub rowKindOf : (left right : ℕ) → RowKind
 rowKindOf left right =
     pick (eqb left 0)
@@ -45,7 +45,7 @@ figureOf left right =
     (figure.Distance (distanceOf left right))
     (pick (eqb left right) figure.EqualBits figure.UnequalBits)
 
--- Of rows that are refused on a side nothing is told of a figure.
+-- In rows that a side refused, figures are untold.
 abbrev pub figureIn : RowKind → (left right : ℕ) → Figure
 figureIn kind.Answered left right = figureOf left right
 figureIn kind.LeftRefused left right = figure.Untold
@@ -53,15 +53,15 @@ figureIn kind.RightRefused left right = figure.Untold
 figureIn kind.RefusedAlike left right = figure.Untold
 figureIn kind.RefusedUnlike left right = figure.Untold
 
--- Its kind and its distance, which is 0 but for kind 0.
+-- A figure's kind and its distance, which is 0 for every kind but 0.
 abbrev pub figureWords : Figure → List ℕ
 figureWords (figure.Distance d) = 0 ∷ d ∷ []
 figureWords figure.EqualBits = 1 ∷ 0 ∷ []
 figureWords figure.UnequalBits = 2 ∷ 0 ∷ []
 figureWords figure.Untold = 3 ∷ 0 ∷ []
 
--- ---- "the row and word of the first largest distance". What is known of it so far, and one figure more: it takes the place only of a smaller distance, so that the first of the largest
--- stands.
+-- ---- "the row and word of the first largest distance". What is known of it so far, and one figure more, which replaces only a smaller
+-- distance: so the first of the largest stays.
 abbrev pub firstLarger : Largest → (row word d : ℕ) → Largest
 firstLarger largest.Nowhere row word d = largest.At row word d
 firstLarger (largest.At r w most) row word d = pick (ltb most d) (largest.At row word d) (largest.At r w most)
@@ -77,7 +77,7 @@ abbrev pub largestWords : (count : ℕ) → Largest → List ℕ
 largestWords count largest.Nowhere = count ∷ rowWords ∷ 0 ∷ []
 largestWords count (largest.At row word d) = row ∷ word ∷ d ∷ []
 
--- ---- The answer's seven words: refusal, side, place, row count, then row, word and distance of the first largest distance. Under a refusal the last four are 0.
+-- ---- The answer's seven words: refusal, side, place, row count, then row, word and distance of the first largest distance. In a refusal the last four are 0.
 abbrev pub sideWord : Side → ℕ
 sideWord side.Neither = 0
 sideWord side.Left = 0

@@ -1,4 +1,4 @@
--- What is told of a figure and of two rows, said case by case and without a test.
+-- What a comparison says of a figure and of two rows, case by case and without a test.
 use mathlib.Core.Path.{_≡_}
 use Prim.Native.Nat.{ℕ, _^_, _<_}
 use Rattle.files_told.specs.Distance.{distanceOf, Finite}
@@ -27,6 +27,6 @@ pub record RowSo (v w : ℕ) : Type 0 where
 abbrev pub RowsSo : Type 0
 RowsSo = (v w : ℕ) → RowSo v w
 
--- Of rows that are refused on a side, no figure is told, whatever its words.
+-- In rows that a side refused, no figure is told, whatever its words.
 abbrev pub RefusedUntold : Type 0
 RefusedUntold = (r : RowKind) (v w : ℕ) → (r ≡ kind.Answered → ⊥) → figureIn r v w ≡ figure.Untold

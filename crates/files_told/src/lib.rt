@@ -1,4 +1,4 @@
-// Layer 5: what is told of two figures, of two rows and of two result files: distances in last places, and the words of each case (document 02, T-07).
+// Layer 5: what a comparison says of two figures, two rows and two result files: distances in last places, and the words of each case (document 02, T-07).
 pub mod distance;
 pub mod told;
 

@@ -1,11 +1,23 @@
-// What is told of two rows, of a figure, of the largest distance, and of two files; and the words of each case.
+// What a comparison says of two rows, of a figure, of the largest distance, and of two files; and the words of each case.
 ghost use mathlib.Core.Path.{_≡_};
-ghost use Rattle.files_told.specs.Told.{rowKindOf, rowKindWord, bothFinite, figureOf, figureIn, figureWords, firstLarger, largestWith, comparedWords, sideWord, comparisonWords};
+ghost use Rattle.files_told.specs.Told.{
+  rowKindOf,
+  rowKindWord,
+  bothFinite,
+  figureOf,
+  figureIn,
+  figureWords,
+  firstLarger,
+  largestWith,
+  comparedWords,
+  sideWord,
+  comparisonWords,
+};
 use crate::distance::distance_of;
 use bits::words::is_finite_word;
 use files_sections::results::ROW_WORDS;
 
-// What two rows are: answered on both sides, refused on one alone, or on both, with one number or with two.
+// What two rows are: answered on both sides, refused on one alone, or on both, with the same number or different ones.
 pub enum RowKind {
     Answered,
     LeftRefused,
@@ -14,7 +26,7 @@ pub enum RowKind {
     RefusedUnlike,
 }
 
-// What is told of a figure: how many last places it moved; where a side is not finite, whether the bits are the same; nothing where a row is refused.
+// What a comparison says of a figure: how many last places it moved; where a side is not finite, whether the bits are the same; nothing where a row is refused.
 pub enum Figure {
     Distance(u64),
     EqualBits,
@@ -39,7 +51,7 @@ pub enum Side {
     Right,
 }
 
-// What is answered to two files.
+// The answer for two files.
 pub enum Comparison {
     Compared {
         count: usize,
@@ -71,7 +83,7 @@ pub fn row_kind_of(left: u64, right: u64) -> RowKind
     RowKind::RefusedUnlike
 }
 
-// Its word.
+// The word of a row's kind.
 pub fn row_kind_word(kind: RowKind) -> u64
     ensures { λ r. ⌜ r ≡ rowKindWord kind ⌝ }
 {
@@ -94,7 +106,7 @@ fn both_finite(left: u64, right: u64) -> bool
     false
 }
 
-// What is told of a figure of rows that are answered, by its two words.
+// What is said of a figure in rows that are answered, by its two words.
 fn figure_of(left: u64, right: u64) -> Figure
     ensures { λ r. ⌜ r ≡ figureOf left right ⌝ }
 {
@@ -107,7 +119,7 @@ fn figure_of(left: u64, right: u64) -> Figure
     Figure::UnequalBits
 }
 
-// What is told of a figure of any two rows.
+// What is said of a figure in any two rows.
 pub fn figure_in(kind: RowKind, left: u64, right: u64) -> Figure
     ensures { λ r. ⌜ r ≡ figureIn kind left right ⌝ }
 {
@@ -120,7 +132,7 @@ pub fn figure_in(kind: RowKind, left: u64, right: u64) -> Figure
     }
 }
 
-// Its kind and its distance.
+// A figure's kind and its distance.
 pub fn figure_words(figure: Figure) -> [u64; 2]
     ensures { λ r. ⌜ r ≡ figureWords figure ⌝ }
 {

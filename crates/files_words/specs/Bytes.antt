@@ -1,5 +1,5 @@
--- Document 01: "Little-endian 64-bit words". A run of bytes is a list of numbers below 256, a run of words a list of numbers below 2 ^ 64, and a place is
--- how many bytes stand before.
+-- Document 01: "Little-endian 64-bit words". A run of bytes is a list of numbers below 256, a run of words a list of numbers below 2 ^ 64, and
+-- a place is the number of bytes before it.
 use Prim.Native.Nat.{ℕ, zero, suc, _+_, _-_, _*_, _/_, _%_, _<_}
 use mathlib.Core.List.{List, [], _∷_, _++_}
 use lib.Dec.{leb}
@@ -21,7 +21,7 @@ unfolding bytesOf
 asBytes [] = []
 asBytes (w ∷ ws) = bytesOf 8 w ++ asBytes ws
 
--- The first n words of a run of bytes; and those that a file has from a place on, as many as are whole.
+-- The first n words of a run of bytes; and the whole words that a file has from a place on.
 unfoldable pub words : ℕ → List ℕ → List ℕ
 unfolding numberOf
 words zero s = []

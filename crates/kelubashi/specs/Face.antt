@@ -1,5 +1,5 @@
 -- Every entry point returns a refusal's number, or 0, and writes its whole answer run, refused or not: the run is the answer itself.
--- 60, the project's own number, stands before all else: the answer run is not exactly as long as the answer, and nothing is written.
+-- 60, the project's own number, comes before all else: the answer run is not exactly as long as the answer, and nothing is written.
 use mathlib.Core.Bool.{not}
 use mathlib.Core.List.{List, [], _∷_}
 use Prim.Native.Nat.{ℕ}
@@ -64,7 +64,7 @@ readWords file = readingWords (readingOf file)
 abbrev pub resultsWords : (file room : List ℕ) → List ℕ
 resultsWords file room = outcomeWords (outcomeOf file room)
 
--- Of the writer: what is returned, and what the answer run and the room hold afterwards.
+-- For the writer: what is returned, and what the answer run and the room hold afterwards.
 abbrev pub writeNumber : (run centres states requests room : List ℕ) → ℕ
 writeNumber run centres states requests room = returned 2 run (numberIn (writingWords (writingOf centres states requests room)))
 

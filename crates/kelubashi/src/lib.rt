@@ -8,10 +8,32 @@ ghost use Rattle.states.specs.WithPartials.{partialsOf, lentOf};
 ghost use Rattle.files_words.specs.Bytes.{put};
 ghost use Rattle.files_results.specs.Results.{outcomeOf, resultFile};
 ghost use lib.ListN.{length};
-ghost use Rattle.files_summary.specs.Changes.{entryWidth, summaryRefusal, summaryList, appendBeside, appendRunBeside, withdrawBeside, withdrawRunBeside, settledBy, putEntry};
+ghost use Rattle.files_summary.specs.Changes.{
+  entryWidth,
+  summaryRefusal,
+  summaryList,
+  appendBeside,
+  appendRunBeside,
+  withdrawBeside,
+  withdrawRunBeside,
+  settledBy,
+  putEntry,
+};
 ghost use Rattle.files_check.specs.RowsFile.{judgedOf, verdictsAfter};
 ghost use Rattle.files_compare.specs.Compare.{compareWords, runAfter};
-ghost use Rattle.kelubashi.specs.Face.{returned, answerAfter, lentBehind, readWords, resultsWords, numberIn, writeNumber, writeAnswer, writeRoom, changeWords, judgedWords};
+ghost use Rattle.kelubashi.specs.Face.{
+  returned,
+  answerAfter,
+  lentBehind,
+  readWords,
+  resultsWords,
+  numberIn,
+  writeNumber,
+  writeAnswer,
+  writeRoom,
+  changeWords,
+  judgedWords,
+};
 
 mod answers;
 
@@ -69,8 +91,10 @@ pub extern "C" fn kelubashi1_partials(
     run: &mut [u64],
 ) -> u64
     ensures number { λ r. ⌜ r ≡ returned 15 (now (answer .entry)) (partialsOf (orbitWords mu x y z vx vy vz tau) (now (run .entry)) .refusal) ⌝ }
-    ensures answer { λ _. ⌜ now (answer .exit) ≡ answerAfter 15 (now (answer .entry)) (answerWords (partialsOf (orbitWords mu x y z vx vy vz tau) (now (run .entry)))) ⌝ }
-    ensures lent { λ _. ⌜ now (run .exit) ≡ lentBehind 15 (now (answer .entry)) (now (run .entry)) (lentOf (orbitWords mu x y z vx vy vz tau) (now (run .entry))) ⌝ }
+    ensures answer { λ _. ⌜ now (answer .exit)
+        ≡ answerAfter 15 (now (answer .entry)) (answerWords (partialsOf (orbitWords mu x y z vx vy vz tau) (now (run .entry)))) ⌝ }
+    ensures lent { λ _. ⌜ now (run .exit)
+        ≡ lentBehind 15 (now (answer .entry)) (now (run .entry)) (lentOf (orbitWords mu x y z vx vy vz tau) (now (run .entry))) ⌝ }
 {
     if answer.len() != 15 {
         return 60;
@@ -105,8 +129,10 @@ pub extern "C" fn kelubashi1_write(
     answer: &mut [u64],
 ) -> u64
     ensures number { λ r. ⌜ r ≡ writeNumber (now (answer .entry)) (now (centres .entry)) (now (states .entry)) (now (requests .entry)) (now (room .entry)) ⌝ }
-    ensures answer { λ _. ⌜ now (answer .exit) ≡ writeAnswer (now (answer .entry)) (now (centres .entry)) (now (states .entry)) (now (requests .entry)) (now (room .entry)) ⌝ }
-    ensures lent { λ _. ⌜ now (room .exit) ≡ writeRoom (now (answer .entry)) (now (centres .entry)) (now (states .entry)) (now (requests .entry)) (now (room .entry)) ⌝ }
+    ensures answer { λ _. ⌜ now (answer .exit)
+        ≡ writeAnswer (now (answer .entry)) (now (centres .entry)) (now (states .entry)) (now (requests .entry)) (now (room .entry)) ⌝ }
+    ensures lent { λ _. ⌜ now (room .exit)
+        ≡ writeRoom (now (answer .entry)) (now (centres .entry)) (now (states .entry)) (now (requests .entry)) (now (room .entry)) ⌝ }
 {
     if answer.len() != 2 {
         return 60;
@@ -121,7 +147,8 @@ pub extern "C" fn kelubashi1_write(
 pub extern "C" fn kelubashi1_results(file: &[u8], room: &mut [u8], answer: &mut [u64]) -> u64
     ensures number { λ r. ⌜ r ≡ returned 2 (now (answer .entry)) (outcomeOf (now (file .entry)) (now (room .entry)) .number) ⌝ }
     ensures answer { λ _. ⌜ now (answer .exit) ≡ answerAfter 2 (now (answer .entry)) (resultsWords (now (file .entry)) (now (room .entry))) ⌝ }
-    ensures lent { λ _. ⌜ now (room .exit) ≡ lentBehind 2 (now (answer .entry)) (now (room .entry)) (put (now (room .entry)) 0 (resultFile (now (file .entry)))) ⌝ }
+    ensures lent { λ _. ⌜ now (room .exit)
+        ≡ lentBehind 2 (now (answer .entry)) (now (room .entry)) (put (now (room .entry)) 0 (resultFile (now (file .entry)))) ⌝ }
 {
     if answer.len() != 2 {
         return 60;
@@ -141,8 +168,10 @@ pub extern "C" fn kelubashi1_summary(
     answer: &mut [u64],
 ) -> u64
     ensures number { λ r. ⌜ r ≡ returned 2 (now (answer .entry)) (summaryRefusal (now (states .entry)) count centres (now (list .entry))) ⌝ }
-    ensures answer { λ _. ⌜ now (answer .exit) ≡ answerAfter 2 (now (answer .entry)) (summaryRefusal (now (states .entry)) count centres (now (list .entry)) ∷ count ∷ []) ⌝ }
-    ensures list { λ _. ⌜ now (list .exit) ≡ lentBehind 2 (now (answer .entry)) (now (list .entry)) (summaryList (now (states .entry)) count centres (now (list .entry))) ⌝ }
+    ensures answer { λ _. ⌜ now (answer .exit)
+        ≡ answerAfter 2 (now (answer .entry)) (summaryRefusal (now (states .entry)) count centres (now (list .entry)) ∷ count ∷ []) ⌝ }
+    ensures list { λ _. ⌜ now (list .exit)
+        ≡ lentBehind 2 (now (answer .entry)) (now (list .entry)) (summaryList (now (states .entry)) count centres (now (list .entry))) ⌝ }
 {
     if answer.len() != 2 {
         return 60;
@@ -162,10 +191,15 @@ pub extern "C" fn kelubashi1_append(
     list: &mut [u64],
     answer: &mut [u64],
 ) -> u64
-    ensures number { λ r. ⌜ r ≡ returned 2 (now (answer .entry)) (appendBeside entryWidth (length (now (list .entry))) (now (state .entry)) (now (states .entry)) count centres .number) ⌝ }
-    ensures answer { λ _. ⌜ now (answer .exit) ≡ answerAfter 2 (now (answer .entry)) (changeWords (appendBeside entryWidth (length (now (list .entry))) (now (state .entry)) (now (states .entry)) count centres)) ⌝ }
-    ensures states { λ _. ⌜ now (states .exit) ≡ lentBehind 2 (now (answer .entry)) (now (states .entry)) (appendRunBeside entryWidth (length (now (list .entry))) (now (state .entry)) (now (states .entry)) count centres) ⌝ }
-    ensures list { λ _. ⌜ now (list .exit) ≡ lentBehind 2 (now (answer .entry)) (now (list .entry)) (settledBy putEntry (now (list .entry)) (appendBeside entryWidth (length (now (list .entry))) (now (state .entry)) (now (states .entry)) count centres)) ⌝ }
+    ensures number { λ r. ⌜ r ≡ returned 2 (now (answer .entry))
+        (appendBeside entryWidth (length (now (list .entry))) (now (state .entry)) (now (states .entry)) count centres .number) ⌝ }
+    ensures answer { λ _. ⌜ now (answer .exit) ≡ answerAfter 2 (now (answer .entry))
+        (changeWords (appendBeside entryWidth (length (now (list .entry))) (now (state .entry)) (now (states .entry)) count centres)) ⌝ }
+    ensures states { λ _. ⌜ now (states .exit) ≡ lentBehind 2 (now (answer .entry)) (now (states .entry))
+        (appendRunBeside entryWidth (length (now (list .entry))) (now (state .entry)) (now (states .entry)) count centres) ⌝ }
+    ensures list { λ _. ⌜ now (list .exit) ≡ lentBehind 2 (now (answer .entry)) (now (list .entry))
+        (settledBy putEntry (now (list .entry))
+        (appendBeside entryWidth (length (now (list .entry))) (now (state .entry)) (now (states .entry)) count centres)) ⌝ }
 {
     if answer.len() != 2 {
         return 60;
@@ -185,10 +219,14 @@ pub extern "C" fn kelubashi1_withdraw(
     list: &mut [u64],
     answer: &mut [u64],
 ) -> u64
-    ensures number { λ r. ⌜ r ≡ returned 2 (now (answer .entry)) (withdrawBeside entryWidth (length (now (list .entry))) which (now (states .entry)) count centres .number) ⌝ }
-    ensures answer { λ _. ⌜ now (answer .exit) ≡ answerAfter 2 (now (answer .entry)) (changeWords (withdrawBeside entryWidth (length (now (list .entry))) which (now (states .entry)) count centres)) ⌝ }
-    ensures states { λ _. ⌜ now (states .exit) ≡ lentBehind 2 (now (answer .entry)) (now (states .entry)) (withdrawRunBeside entryWidth (length (now (list .entry))) which (now (states .entry)) count centres) ⌝ }
-    ensures list { λ _. ⌜ now (list .exit) ≡ lentBehind 2 (now (answer .entry)) (now (list .entry)) (settledBy putEntry (now (list .entry)) (withdrawBeside entryWidth (length (now (list .entry))) which (now (states .entry)) count centres)) ⌝ }
+    ensures number { λ r. ⌜ r ≡ returned 2 (now (answer .entry))
+        (withdrawBeside entryWidth (length (now (list .entry))) which (now (states .entry)) count centres .number) ⌝ }
+    ensures answer { λ _. ⌜ now (answer .exit) ≡ answerAfter 2 (now (answer .entry))
+        (changeWords (withdrawBeside entryWidth (length (now (list .entry))) which (now (states .entry)) count centres)) ⌝ }
+    ensures states { λ _. ⌜ now (states .exit) ≡ lentBehind 2 (now (answer .entry)) (now (states .entry))
+        (withdrawRunBeside entryWidth (length (now (list .entry))) which (now (states .entry)) count centres) ⌝ }
+    ensures list { λ _. ⌜ now (list .exit) ≡ lentBehind 2 (now (answer .entry)) (now (list .entry))
+        (settledBy putEntry (now (list .entry)) (withdrawBeside entryWidth (length (now (list .entry))) which (now (states .entry)) count centres)) ⌝ }
 {
     if answer.len() != 2 {
         return 60;
@@ -202,8 +240,10 @@ pub extern "C" fn kelubashi1_withdraw(
 #[no_mangle]
 pub extern "C" fn kelubashi1_check(file: &[u8], verdicts: &mut [u64], answer: &mut [u64]) -> u64
     ensures number { λ r. ⌜ r ≡ returned 2 (now (answer .entry)) (numberIn (judgedWords (judgedOf (now (file .entry)) (length (now (verdicts .entry)))))) ⌝ }
-    ensures answer { λ _. ⌜ now (answer .exit) ≡ answerAfter 2 (now (answer .entry)) (judgedWords (judgedOf (now (file .entry)) (length (now (verdicts .entry))))) ⌝ }
-    ensures lent { λ _. ⌜ now (verdicts .exit) ≡ lentBehind 2 (now (answer .entry)) (now (verdicts .entry)) (verdictsAfter (now (file .entry)) (now (verdicts .entry))) ⌝ }
+    ensures answer { λ _. ⌜ now (answer .exit)
+        ≡ answerAfter 2 (now (answer .entry)) (judgedWords (judgedOf (now (file .entry)) (length (now (verdicts .entry))))) ⌝ }
+    ensures lent { λ _. ⌜ now (verdicts .exit)
+        ≡ lentBehind 2 (now (answer .entry)) (now (verdicts .entry)) (verdictsAfter (now (file .entry)) (now (verdicts .entry))) ⌝ }
 {
     if answer.len() != 2 {
         return 60;
@@ -213,7 +253,7 @@ pub extern "C" fn kelubashi1_check(file: &[u8], verdicts: &mut [u64], answer: &m
     judged.number
 }
 
-// What is told of two result files, row by row to a lent run, and an answer run of seven words.
+// Two result files compared, row by row to a lent run, and an answer run of seven words.
 #[no_mangle]
 pub extern "C" fn kelubashi1_compare(
     left: &[u8],
@@ -222,8 +262,10 @@ pub extern "C" fn kelubashi1_compare(
     answer: &mut [u64],
 ) -> u64
     ensures number { λ r. ⌜ r ≡ returned 7 (now (answer .entry)) (numberIn (compareWords (now (left .entry)) (now (right .entry)) (now (rows .entry)))) ⌝ }
-    ensures answer { λ _. ⌜ now (answer .exit) ≡ answerAfter 7 (now (answer .entry)) (compareWords (now (left .entry)) (now (right .entry)) (now (rows .entry))) ⌝ }
-    ensures lent { λ _. ⌜ now (rows .exit) ≡ lentBehind 7 (now (answer .entry)) (now (rows .entry)) (runAfter (now (left .entry)) (now (right .entry)) (now (rows .entry))) ⌝ }
+    ensures answer { λ _. ⌜ now (answer .exit)
+        ≡ answerAfter 7 (now (answer .entry)) (compareWords (now (left .entry)) (now (right .entry)) (now (rows .entry))) ⌝ }
+    ensures lent { λ _. ⌜ now (rows .exit)
+        ≡ lentBehind 7 (now (answer .entry)) (now (rows .entry)) (runAfter (now (left .entry)) (now (right .entry)) (now (rows .entry))) ⌝ }
 {
     if answer.len() != 7 {
         return 60;

@@ -2,10 +2,10 @@
 //
 //     propagate [FILE]
 //
-// Reads the file that is named, or standard input where none is, and writes the result file to
-// standard output. What cannot be read or written is said on standard error, with its name, and no
-// result file is written then: a failed read is not an empty file. A program cannot set an exit
-// status here, so whoever runs it looks at what it wrote: nothing is never a result file.
+// Reads the file that is named, or standard input where none is, and writes the result file to standard
+// output. What cannot be read or written is said on standard error, with its name, and no result file
+// is written then: a failed read is not an empty file. A program cannot set an exit status here, so
+// whoever runs it looks at what it wrote: an empty output is never a result file.
 ghost use mathlib.Core.Path.{_≡_};
 ghost use mathlib.Core.List.{List, _++_};
 ghost use Prim.Native.Nat.{ℕ, _<_};
@@ -46,13 +46,13 @@ fn propagate_named() {
     propagate(fd, &path[..size]);
 }
 
-// The bytes that are read of a file: one more than the longest that can be accepted has.
+// How many bytes of a file are read: one more than the longest accepted file has.
 const READ: usize = files_reader::LONGEST_FILE + 1;
 
 // A file that is open, and is called by this name.
 //
-// The file is closed before anything is written: where an output was closed when the program
-// started, the file has been given its number.
+// The file is closed before anything is written: where an output was closed when the program started,
+// the file has been given that output's number.
 fn propagate(fd: i32, name: &[u8]) {
     let mut file = [0u8; READ];
     match streams::read_whole(fd, &mut file) {
@@ -66,7 +66,7 @@ fn propagate(fd: i32, name: &[u8]) {
     }
 }
 
-// Writes the result file of an element file to standard output, of which so many bytes were read.
+// Writes the result file of an element file, of which so many bytes were read, to standard output.
 fn answer(file: &[u8], n: usize)
     requires { ⌜ Counts n (now file) × (longestFile < length (now file)) ⌝ }
 {

@@ -1,5 +1,5 @@
--- The search of document 01, with T-01 of document 02: the rule's history at the time error's trial points, and the end of its pair that is answered. It is written
--- with any proposal; document 01's three are one instance.
+-- The search of document 01, with T-01 of document 02: the rule's history at the time error's trial points, and the end of its pair that is answered. It is
+-- written with any proposal; document 01's three are one instance.
 use Prim.Native.Nat.{ℕ}
 use mathlib.Core.List.{[]}
 use lib.Ieee.{neg, eq}
@@ -26,7 +26,7 @@ historyBy pr i tau first = history (trialAt i tau) pr first (neg (tau .0))
 abbrev pub historyAt : Initial → Seconds → (first : ℕ) → History
 historyAt i tau first = historyBy (threeProposals i tau) i tau first
 
--- Its parts: outward; and inward from a pair, where nothing of what was tried before matters to document 01's proposals.
+-- Its parts: outward; and inward from a pair, where document 01's proposals do not depend on what was tried before.
 abbrev pub outwardAt : Initial → Seconds → (first : ℕ) → History
 outwardAt i tau first = outwardPart (trialAt i tau) first (neg (tau .0))
 
@@ -44,7 +44,7 @@ findingBy choose tau (AllShort n) = finding.AllShort n
 abbrev pub findingOf : Seconds → Next → Finding
 findingOf tau next = findingBy nearerEnd tau next
 
--- "If τ is either zero, ψ = +0 with no trial points." With any choice, so that it can be said what a choice does not touch (SearchPromise `PointsStay`).
+-- "If τ is either zero, ψ = +0 with no trial points." It takes any choice, so that what a choice does not touch can be stated (SearchPromise `PointsStay`).
 unfoldable pub searchChoosing : Choosing → Proposal → Initial → Seconds → (h : Anomaly) → Finding
 searchChoosing choose pr i tau h =
     pick (eq (tau .0) n0)

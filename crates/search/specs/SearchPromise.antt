@@ -25,7 +25,7 @@ usedIn (finding.Found psi n) = n
 usedIn (finding.AllShort n) = n
 usedIn (finding.Unreadable n) = n
 
--- The points that the search tries, in order; and those of document 01's.
+-- The points that a search tries, in order; and those that document 01's tries.
 abbrev pub triedBy : Proposal → Initial → Seconds → (first : ℕ) → List Point
 triedBy pr i tau first = pointsIn (historyBy pr i tau first)
 
@@ -38,7 +38,7 @@ Says pr i tau first (finding.Found psi n) = (p : ℕ) × (psi ≡ anomalyAt tau 
 Says pr i tau first (finding.AllShort n) = AllOutwardShort (trialAt i tau) first
 Says pr i tau first (finding.Unreadable n) = LastUnreadable (triedBy pr i tau first)
 
--- And when it is given. "A made-up point count breaks demand 3, because the rule's own history has the count."
+-- And when a finding is given. "A made-up point count breaks demand 3, because the rule's own history has the count."
 pub record Searched (pr : Proposal) (i : Initial) (tau : Seconds) (first : ℕ) (a : Finding) : Type 0 where
   pub says : Says pr i tau first a
   pub finds : Findable (trialAt i tau) first → (psi : Anomaly) × (a ≡ finding.Found psi (usedIn a))
@@ -52,8 +52,9 @@ pub record Promise (pr : Proposal) (i : Initial) (tau : Seconds) (h : Anomaly) (
   pub no-interval : eq (tau .0) n0 ≡ true → a ≡ finding.Found (record { 0 = n0 }) 0
   pub interval : eq (tau .0) n0 ≡ false → Searched pr i tau (placeOf (h .0)) a
 
--- Demand 3, of the search: "an anomaly is found. .. At most 167 trial points are spent, and the reported number is how many the search used." That is `at-most`; the
--- places give a sharper bound, which is ours. What is found reads, since T-01: "a zero error, or one end of an adjacent short and past pair, chosen so."
+-- Demand 3, of the search: "an anomaly is found. .. At most 167 trial points are spent, and the reported number is how many the search used."
+-- That is `at-most`; the places give a sharper bound, which is ours. What is found reads, since T-01: "a zero error, or one end of an
+-- adjacent short and past pair, chosen so."
 pub record Demand3 (pr : Proposal) (i : Initial) (tau : Seconds) (h : Anomaly) (a : Finding) : Type 0 where
   pub place : ℕ
   pub points : ℕ
@@ -63,8 +64,8 @@ pub record Demand3 (pr : Proposal) (i : Initial) (tau : Seconds) (h : Anomaly) (
   pub at-most : points ≤ 167
   pub sharper : points ≤ 145
 
--- ---- T-01: "Point counts stay." Whatever is chosen between the ends, the search differs in ψ alone from document 01's, which answered the short end. The count is the
--- history's (`counts` above), and the history does not know of the choice.
+-- ---- T-01: "Point counts stay." Whichever end is chosen, the search differs in ψ alone from document 01's, which answered the short end. The count is the
+-- history's (`counts` above), and the history does not depend on the choice.
 abbrev pub SameButAnomaly : Finding → Finding → Type 0
 SameButAnomaly (finding.Found psi n) (finding.Found psi' n') = n ≡ n'
 SameButAnomaly (finding.Found psi n) (finding.AllShort n') = ⊥

@@ -1,4 +1,5 @@
-// Layer 3: the anomaly search (document 01, "The search"; document 02, T-01), by its rule (`search_rule`) at its points (`search_points`) and its proposals (`search_proposals`).
+// Layer 3: the anomaly search (document 01, "The search"; document 02, T-01), by its rule (`search_rule`) at its points
+// (`search_points`) and its proposals (`search_proposals`).
 ghost use mathlib.Core.Path.{_≡_};
 ghost use Prim.Native.Nat.{_<_, _^_};
 ghost use Rattle.search_points.specs.Trial.{trialAt};

@@ -44,7 +44,7 @@ fn chosen_place(pair: Pair, offered: u64) -> u64
     offered
 }
 
-// The point at a place above 0, for the inward turns, which try most of the points: `first_sums` has no other caller, so the compiler writes it into their loop.
+// The point at a place above 0, for the inward turns, which try most points: `first_sums` has no other caller, so the compiler writes it into their loop.
 fn try_inner(initial: Initial, tau: Seconds, place: u64) -> Trial
     requires { ⌜ 0 < place ⌝ }
     ensures { λ r. ⌜ r ≡ trialAt initial tau place ⌝ }

@@ -1,5 +1,5 @@
--- Whether a place is an anomaly's, told without a search (document 02, T-06): the anomaly "is exact, or is the answer T-01 picks from its adjacent pair (the next
--- place out if it is short, the next in if past)". It is written over any trial function, as the search's rule is.
+-- Whether a place is an anomaly's, told without a search (document 02, T-06): the anomaly "is exact, or is the answer T-01 picks from its adjacent pair (the
+-- next place out if it is short, the next in if past)". It is written over any trial function, as the search's rule is.
 use Prim.Native.Nat.{ℕ, _+_, _-_}
 use mathlib.Core.Path.{_≡_}
 use mathlib.Core.Bool.{Bool, true, false}
@@ -12,12 +12,12 @@ use Rattle.search_rule.specs.Rule.{Trials, endAt}
 use Rattle.search_rule.specs.Nearer.{nearerEnd}
 use Rattle.search_rule.specs.RulePromise.{IsAnomaly}
 
--- "the answer T-01 picks" of two ends stands at this place.
+-- Whether "the answer T-01 picks" of two ends stands at this place.
 unfoldable pub picks : (short past : End) (place : ℕ) → Bool
 picks short past place = eqb (nearerEnd short past .place) place
 
--- A short end passes by its neighbour one place out, which has to be past; a past end by its neighbour one place in, which has to be short. A neighbour of the same
--- sort, an exact one and an unreadable one make no pair.
+-- A short end passes by its neighbour one place out, which has to be past; a past end by its neighbour one place in, which has to be short. A neighbour that is
+-- of the same sort, exact or unreadable makes no pair.
 abbrev pub shortBeside : (short : End) → Sort → Bool
 shortBeside short (Past r) = picks short (endAt (short .place + 1) r) (short .place)
 shortBeside short (Short r) = false
@@ -48,7 +48,7 @@ passes ev p = passesAs ev p (ev p .sort)
 
 -- ---- What it promises, for any trial function.
 
--- A place passes exactly where it is an anomaly's in demand 3's words, as T-01 left them: "a zero error, or one end of an adjacent short and past pair, chosen so".
+-- A place passes exactly where it is an anomaly's in demand 3's words since T-01: "a zero error, or one end of an adjacent short and past pair, chosen so".
 pub record PassesSo (ev : Trials) (p : ℕ) : Type 0 where
   pub only : passes ev p ≡ true → IsAnomaly ev p
   pub all : IsAnomaly ev p → passes ev p ≡ true

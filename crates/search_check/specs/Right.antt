@@ -1,5 +1,5 @@
--- Document 02, T-06: "the anomaly is +0 for zero τ, or otherwise has the sign of τ and is exact, or is the answer T-01 picks from its adjacent pair". The anomaly is
--- any word; τ is the interval that is searched: "T-04's reduction is made first".
+-- Document 02, T-06: "the anomaly is +0 for zero τ, or otherwise has the sign of τ and is exact, or is the answer T-01 picks from its adjacent pair". The
+-- anomaly is any word; τ is the interval that is searched: "T-04's reduction is made first".
 use Prim.Native.Nat.{ℕ, _%_, _^_, _≤_, _<_}
 use mathlib.Core.Path.{_≡_}
 use mathlib.Core.Bool.{Bool, true, false}
@@ -40,7 +40,7 @@ pub record HasSign (tau : Seconds) (word : ℕ) : Type 0 where
   pub below : lt (tau .0) n0 ≡ true → minusZero ≤ word
   pub above : lt (tau .0) n0 ≡ false → word < minusZero
 
--- "+0 for zero τ": of either sign, but the anomaly's sign bit is clear;
+-- "+0 for zero τ": τ is a zero of either sign, but the anomaly's sign bit is clear;
 pub record RightAtZero (tau : Seconds) (word : ℕ) : Type 0 where
   pub no-interval : eq (tau .0) n0 ≡ true
   pub plus-zero : word ≡ 0
@@ -69,7 +69,7 @@ pub record RightIs (i : Initial) (tau : Seconds) (word : ℕ) : Type 0 where
 abbrev pub RightMeans : Type 0
 RightMeans = (i : Initial) (tau : Seconds) (word : ℕ) → word < 2 ^ 64 → Right i tau word → RightIs i tau word
 
--- ---- "Every row we ourselves answer must be accepted": what a search finds, whatever formula proposes its inner points, is right, and it is the double of its word.
+-- ---- "Every row we ourselves answer must be accepted": what a search finds, whatever formula proposes its inner points, is right, and the double of its word.
 pub record FoundRight (i : Initial) (tau : Seconds) (psi : Anomaly) : Type 0 where
   pub right : Right i tau (toBits binary64 (psi .0))
   pub same : record { 0 = ofBits binary64 (toBits binary64 (psi .0)) } ≡ psi

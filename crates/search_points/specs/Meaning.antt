@@ -1,4 +1,4 @@
--- What the sorts mean, said of document 01's own R: "R = ((r0·s1+σ0·s2)+μ·s3)−τ" at ψ, with "s1 = ψ·c1, s2 = (ψ·ψ)·c2, s3 = ((ψ·ψ)·ψ)·c3".
+-- What the sorts mean, by document 01's own R: "R = ((r0·s1+σ0·s2)+μ·s3)−τ" at ψ, with "s1 = ψ·c1, s2 = (ψ·ψ)·c2, s3 = ((ψ·ψ)·ψ)·c3".
 use mathlib.Core.Path.{_≡_}
 use mathlib.Core.Bool.{Bool, true, false}
 use mathlib.Core.Logic.{_⊎_}
@@ -24,11 +24,11 @@ errorAt i tau psi =
 abbrev pub isOpposite : Seconds → Float → Bool
 isOpposite tau r = pick (lt (tau .0) n0) (lt n0 r) (lt r n0)
 
--- The error at a place, which is that of the place's ψ.
+-- The error at a place: that of its ψ.
 abbrev pub errorOfPlace : Initial → Seconds → (place : ℕ) → Float
 errorOfPlace i tau p = errorAt i tau (anomalyAt tau p)
 
--- A place from 2047·2^52 on is that of a ψ that is not finite.
+-- From place 2047·2^52 on, ψ is not finite.
 -- "place 0 is short; ψ or L not finite, or R NaN: unreadable; R = 0: exact; R with the sign opposite to τ: short; else past." "Place 0 has R = −τ here."
 pub record SortsMean (i : Initial) (tau : Seconds) (p : ℕ) : Type 0 where
   pub unreadable :

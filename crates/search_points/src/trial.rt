@@ -94,7 +94,7 @@ pub fn point_of(initial: Initial, tau: Seconds, c0: f64, s: Sums) -> Trial
     }
 }
 
-// The point of an anomaly, evaluated where L is finite: it isn't where psi isn't.
+// The point of an anomaly, evaluated where L is finite; L is not finite where psi is not.
 fn evaluated(initial: Initial, tau: Seconds, psi: Anomaly) -> Trial
     ensures { λ r. ⌜ r ≡ evaluatedAt initial tau psi ⌝ }
 {

@@ -29,7 +29,7 @@ interval = record { 0 = ofBits binary64 0x409c200000000000 }
 abbrev end : (place error : ℕ) → End
 end place error = record { place = place; error = ofBits binary64 error }
 
--- A pair by its two ends, of which the past one was tried last, or the short one.
+-- A pair by its two ends; `last` is whether the past one was tried last.
 abbrev pair : (short past : End) (last : Bool) (place : ℕ) → Pair
 pair short past last place = pairOf short past last (trialAt state interval place)
 
@@ -37,12 +37,16 @@ pair short past last place = pairOf short past last (trialAt state interval plac
 first-fits :
     let s = pair (end 0x3fb67c17c4c5e46e 0xc0916af043b07380) (end 0x3fc67c17c4c5e46e 0x406414ea8f189d10) true 0x3fc67c17c4c5e46e in
     proposed state interval s ≡ 0x3fc55e91b0ee662a
-unfolding ofBits toBits neg add sub mul div lt eq ne beyondOne reducedFrom nested c4Of c5Of atReduced doublings quotientsOf coefficientsOf sumsOf timeErrorOf radiusOf anomalyAt sortOf evaluatedAt trialAt offeredAt byRadius byInterval byEnds proposed
+unfolding
+    ofBits toBits neg add sub mul div lt eq ne beyondOne reducedFrom nested c4Of c5Of atReduced doublings quotientsOf coefficientsOf sumsOf
+    timeErrorOf radiusOf anomalyAt sortOf evaluatedAt trialAt offeredAt byRadius byInterval byEnds proposed
 first-fits = refl
 
--- The second, from the short end: the first proposal does not fit, and the second does.
+-- The second round, from the short end: the first proposal does not fit, and the second does.
 second-fits :
     let s = pair (end 0x3fbded54bada254c 0xc087edac395c6302) (end 0x3fc55e91b0ee662a 0x400c6a881b92f800) false 0x3fbded54bada254c in
     (byRadius state interval s ≡ 0) × (proposed state interval s ≡ 0x3fc5543516a2e674)
-unfolding ofBits toBits neg add sub mul div lt eq ne beyondOne reducedFrom nested c4Of c5Of atReduced doublings quotientsOf coefficientsOf sumsOf timeErrorOf radiusOf anomalyAt sortOf evaluatedAt trialAt offeredAt byRadius byInterval byEnds proposed
+unfolding
+    ofBits toBits neg add sub mul div lt eq ne beyondOne reducedFrom nested c4Of c5Of atReduced doublings quotientsOf coefficientsOf sumsOf
+    timeErrorOf radiusOf anomalyAt sortOf evaluatedAt trialAt offeredAt byRadius byInterval byEnds proposed
 second-fits = (refl, refl)

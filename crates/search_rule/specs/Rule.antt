@@ -22,7 +22,7 @@ pub record Point : Type 0 where
   pub place : ℕ
   pub trial : Trial
 
--- A trial function, and its point at a place; and a proposal: of the round's number, the points tried so far, the first first, and the pair.
+-- A trial function, and its point at a place; and a proposal, made from the round's number, the points tried so far, in order, and the pair.
 abbrev pub Trials : Type 0
 Trials = ℕ → Trial
 
@@ -52,7 +52,7 @@ unfoldable pub endingOf : History → Ending
 endingOf (tries p h) = endingOf h
 endingOf (ends e) = e
 
--- The part of a search that follows one which ended with a pair, and knows all points tried before it; and the two as one.
+-- What follows a part of a search that ended with a pair, and knows all points tried before; and the two parts as one.
 abbrev pub Sequel : Type 0
 Sequel = (tried : List Point) → Pair → History
 
@@ -73,7 +73,7 @@ pairOf short past last t = record { short = short; past = past; «last_is_past»
 -- ---- "Outward: places of |H| plus k·2^52, k = 0 to 40, tried in order until one isn't short. .. Exact ends the search. Past gives a pair: the previous
 -- point, or place 0 when k = 0, and this one."
 
--- What the point t at a place gives, after a short end: on to the next point from a short one, or a stop.
+-- What the point t at a place gives, after a short end: a short end to go on from, or a stop.
 pub data Outward : Type 0 where
   on : End → Outward
   stop : Ending → Outward
@@ -96,7 +96,7 @@ unfoldable pub outward : Trials → (k place : ℕ) → (short : End) → Histor
 outward ev zero place short = ends allShort
 outward ev (suc k) place short = tries (pointAt ev place) (goingOn (outwardStep short place (ev place)) (outward ev k (place + 2 ^ 52)))
 
--- From the first place, the place of |H|, on, with the time error of place 0.
+-- From the place of |H| on, with the time error of place 0.
 abbrev pub outwardPart : Trials → (first : ℕ) (error : Float) → History
 outwardPart ev first error = outward ev 41 first (endAt 0 error)
 
@@ -134,14 +134,14 @@ halving ev s = pick (isWide s) (attempt ev s (halfway s)) (ends (between s))
 abbrev pub isInside : Pair → ℕ → Bool
 isInside s place = ltb (s .short .place) place && ltb place (s .past .place)
 
--- "first a proposal, then .. the halving place"; a proposal that does not lie strictly between is none.
+-- "first a proposal, then .. the halving place"; a proposal that does not lie strictly between counts as none.
 abbrev pub roundFrom : Trials → List Point → Pair → (proposed : ℕ) → History
 roundFrom ev tried s proposed = pick (isInside s proposed) (onward tried (attempt ev s proposed) (λ _. halving ev)) (halving ev s)
 
 unfoldable pub round : Trials → Proposal → (round : ℕ) → Sequel
 round ev pr k tried s = roundFrom ev tried s (pr k tried s)
 
--- With `left` rounds left, before the round k.
+-- With `left` rounds left, before round k.
 unfoldable pub inward : Trials → Proposal → (left k : ℕ) → Sequel
 inward ev pr zero k tried s = ends (between s)
 inward ev pr (suc left) k tried s = pick (isWide s) (onward tried (round ev pr k tried s) (inward ev pr left (k + 1))) (ends (between s))

@@ -48,7 +48,7 @@ pub record FirstNotShort (ev : Trials) (first n k : ℕ) : Type 0 where
 abbrev pub ReadableUpTo : Trials → ℕ → Type 0
 ReadableUpTo ev p = (q : ℕ) → q ≤ p → ev q .sort ≡ Unreadable → ⊥
 
--- Its premise.
+-- The premise of demand 3.
 pub record Findable (ev : Trials) (first : ℕ) : Type 0 where
   pub k : ℕ
   -- "some of the 41 outward trial points isn't short of the time": the k-th is the first.
@@ -56,7 +56,7 @@ pub record Findable (ev : Trials) (first : ℕ) : Type 0 where
   -- "no double from zero to the first such point is unreadable"
   pub readable : ReadableUpTo ev (outPoint first k)
 
--- An end of a pair is what it says.
+-- An end of a pair has the sort and error that it says.
 abbrev pub IsShortEnd : Trials → End → Type 0
 IsShortEnd ev e = ev (e .place) .sort ≡ Short (e .error)
 
@@ -106,12 +106,12 @@ EndsSo = (ev : Trials) (pr : Proposal) (first : ℕ) (error : Float) → Sorts e
 abbrev pub historyIn : (rounds : ℕ) → Trials → Proposal → (first : ℕ) (error : Float) → History
 historyIn rounds ev pr first error = onward [] (outwardPart ev first error) (inward ev pr rounds 0)
 
--- ---- An unreadable point: some point of these is one.
+-- ---- One of these points is unreadable.
 abbrev pub SomeUnreadable : List Point → Type 0
 SomeUnreadable [] = ⊥
 SomeUnreadable (p ∷ ps) = (p .trial .sort ≡ Unreadable) ⊎ SomeUnreadable ps
 
--- The last point of these is unreadable, and no other.
+-- Of these points the last is unreadable, and no other.
 pub record LastUnreadable (ps : List Point) : Type 0 where
   pub before : List Point
   pub last : Point

@@ -47,7 +47,7 @@ impl Pair {
     }
 }
 
-// What a tried point makes of the short end before it: a short one is the next such end, and any other a stop; `points` counts it.
+// What a tried point gives after a short end: a short point is the next short end, any other a stop; `points` counts it.
 pub fn step_by(short: End, place: u64, t: Trial, points: u64) -> Step
     ensures { λ r. ⌜ r ≡ stepOf points (outwardStep short place t) ⌝ }
 {

@@ -4,7 +4,21 @@ use mathlib.Core.Path.{_≡_, refl, sym, subst}
 use Prim.Native.Nat.{ℕ}
 use lib.Ieee.{Float, binary64, add, sub, mul, div, lt, ofBits}
 use Rattle.bits.specs.Arithmetic.{n0, n1, half}
-use Rattle.series.specs.Series.{firstL, beyondOne, reducedFrom, reduced, nested, c4Of, c5Of, atReduced, doublings, quotientsOf, coefficientsFrom, coefficientsOf, sumsOf}
+use Rattle.series.specs.Series.{
+  firstL,
+  beyondOne,
+  reducedFrom,
+  reduced,
+  nested,
+  c4Of,
+  c5Of,
+  atReduced,
+  doublings,
+  quotientsOf,
+  coefficientsFrom,
+  coefficientsOf,
+  sumsOf,
+}
 use Rattle.series.specs.declared.figures.Anomaly.{Anomaly}
 use Rattle.series.specs.declared.figures.Coefficients.{Coefficients}
 
@@ -20,7 +34,7 @@ pub p5 : (alpha : Float) (psi : Anomaly) → firstL alpha psi ≡ n0 → P5 (coe
 unfolding coefficientsOf
 p5 alpha psi zero = subst (λ (l : Float). P5 (coefficientsFrom l (reduced l))) (sym zero) at-zero
 
--- Its two ways, with 1 for the other figure: ψ = +0 and α = +0.
+-- The two ways to it: ψ = +0 and α = +0, each with 1 for the other figure.
 pub p5-anomaly : P5 (coefficientsOf n1 (record { 0 = n0 }))
 unfolding mul ofBits
 p5-anomaly = p5 n1 (record { 0 = n0 }) refl
@@ -29,7 +43,7 @@ pub p5-alpha : P5 (coefficientsOf n0 (record { 0 = n1 }))
 unfolding mul ofBits
 p5-alpha = p5 n0 (record { 0 = n1 }) refl
 
--- Of α and ψ, by their words: the words of c0 to c5 and of s1 to s3.
+-- The words of c0 to c5 and of s1 to s3, for an α and a ψ given by their words.
 abbrev number : ℕ → Float
 number = ofBits binary64
 

@@ -81,4 +81,5 @@ whole-numbers :
     ∷ (n42, 42) ∷ (n72, 72) ∷ (n110, 110) ∷ (n156, 156) ∷ (n210, 210) ∷ (n272, 272) ∷ (n342, 342) ∷ (n420, 420)
     ∷ [])
 unfolding ofBits ofInt
-whole-numbers = (refl, (refl, (refl, (refl, (refl, (refl, (refl, (refl, (refl, (refl, (refl, (refl, (refl, (refl, (refl, (refl, (refl, (refl, (refl, tt)))))))))))))))))))
+whole-numbers =
+    (refl, (refl, (refl, (refl, (refl, (refl, (refl, (refl, (refl, (refl, (refl, (refl, (refl, (refl, (refl, (refl, (refl, (refl, (refl, tt)))))))))))))))))))

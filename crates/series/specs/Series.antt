@@ -23,7 +23,7 @@ unfoldable pub beyondOne : Float → Bool
 beyondOne l = lt n1 (magnitude l)
 
 -- "While |L| > 1 divide it by 4; this happens m times, at most 512."
--- Of L, with `most` divisions left and m made; `again` is whether |L| > 1.
+-- For L, with `most` divisions left and m made; `again` is whether |L| > 1.
 unfoldable pub reducedFrom : (most : ℕ) (again : Bool) (l : Float) (m : ℕ) → Reduced
 reducedFrom zero again l m = record { l = l; m = m }
 reducedFrom (suc most) false l m = record { l = l; m = m }
@@ -70,7 +70,7 @@ quotientsOf l two =
     let c5 = (c3 ⊖ sixth) ⊘ l in
     record { c0 = two .c0; c1 = two .c1; c2 = c2; c3 = c3; c4 = c4; c5 = c5 }
 
--- "If m > 0" it is these; else the six at L, which then no doubling changes.
+-- "If m > 0" they are these; else the six at L, which no doubling changes.
 abbrev pub coefficientsFrom : (first : Float) (after : Reduced) → Coefficients
 coefficientsFrom first after =
     let six = atReduced (after .l) in

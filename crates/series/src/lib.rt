@@ -34,7 +34,7 @@ pub fn coefficients(alpha: f64, psi: Anomaly) -> Coefficients
     restored(l, reduced.m, at_reduced(reduced.l))
 }
 
-// c0 and the sums of the anomaly psi: all that a trial point asks for. A call of its own, so that it can be compiled into the search's loop and without c4 and c5.
+// c0 and the sums of the anomaly psi: all that a trial point needs. A call of its own, so that it can be compiled into the search's loop and without c4 and c5.
 pub fn first_sums(alpha: f64, psi: Anomaly) -> FirstSums
     ensures { λ r. ⌜ r ≡ record { c0 = coefficientsOf alpha psi .c0; sums = sumsOf psi (coefficientsOf alpha psi) } ⌝ }
 {
@@ -66,7 +66,7 @@ fn first_l(alpha: f64, psi: Anomaly) -> f64
     alpha * (psi.0 * psi.0)
 }
 
-// Whether |l| > 1; of a NaN it is not so.
+// Whether |l| > 1; false for a NaN.
 fn beyond_one(l: f64) -> bool
     ensures { λ r. ⌜ r ≡ beyondOne l ⌝ }
 {

@@ -112,7 +112,7 @@ unchanged-or-answer pt pr words run = length-kept (not (eqb (length run) 36)) (r
 abbrev pub foundBy : Proposing → Initial → Seconds → Finding
 foundBy pr i tau = searching pr i tau (firstStepOf i tau)
 
--- However the anomaly is come by, the call goes on from what is found.
+-- Whether the anomaly is searched for or given, the call goes on from what is found.
 pub leads : (pt : Parting) (find : Finder) (words : List ℕ) (s : Searches pt words) {x : Finding} →
     find (s .start .initial) (searchedIn s) (firstStepOf (s .start .initial) (searchedIn s)) ≡ x → reachedWordsBy pt find words ≡ reachedFound (s .start) (intervalIn s) x
 unfolding reachedWordsBy reachedOrbitBy reachedFromBy reachedOverBy

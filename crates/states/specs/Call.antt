@@ -1,5 +1,5 @@
 -- Document 01, "Refusals in order of checking", for the call without partials and what the two calls share: "A refusal carries the trial points used so far (0
--- for 1 to 4 and 9), all other figures +0; lent memory keeps its bytes. The first that applies is given, and none otherwise." Since T-05, 31 to 38 stand in the place of 2.
+-- for 1 to 4 and 9), all other figures +0; lent memory keeps its bytes. The first that applies is given, and none otherwise." Since T-05, 31 to 38 replace 2.
 use mathlib.Core.Bool.{not}
 use mathlib.Core.List.{List, [], _∷_}
 use Prim.Native.Nat.{ℕ}
@@ -55,14 +55,14 @@ refused refusal points = record { refusal = refusal; points = points; results = 
 unfoldable pub answered : (points : ℕ) → Results → Answer
 answered points results = record { refusal = 0; points = points; results = results }
 
--- Refusal 5: "all 41 outward points are short"; 6: "a point that the search tries is unreadable"; both with the points used so far. Else the arc of the found ψ.
+-- Refusal 5: "all 41 outward points are short"; 6: "a point that the search tries is unreadable"; both with the points used so far. Else the found ψ's arc.
 unfoldable pub reachedFound : Start → Interval → Finding → Reached
 reachedFound s d (finding.AllShort n) = reached.Refused 5 n
 reachedFound s d (finding.Unreadable n) = reached.Refused 6 n
 reachedFound s d (finding.Found psi n) = reached.End (arcOf s d psi) n
 
--- How an anomaly of an interval is come by, at the initial figures of a state and with H: by a search, whatever formula proposes its inner points; or it is given, as the
--- one of another station's row is (T-06).
+-- Where the anomaly of an interval comes from, with the initial figures of a state and H: from a search, whatever formula proposes its inner points; or it is
+-- given, as in another station's row (T-06).
 abbrev pub Finder : Type 0
 Finder = Initial → Seconds → (h : Anomaly) → Finding
 
@@ -72,12 +72,12 @@ searching pr i tau h = searchBy (pr i tau) i tau h
 abbrev pub taking : Anomaly → Finder
 taking psi i tau h = finding.Found psi 0
 
--- By document 01's three proposals, of which the contracts speak, or as it is given.
+-- By document 01's three proposals, which the contracts use, or as it is given.
 abbrev pub finderOf : Seeking → Finder
 finderOf seeking.Search = searching threeProposals
 finderOf (seeking.Given psi) = taking psi
 
--- Refusal 4 by H of what is searched; then the anomaly.
+-- Refusal 4 by the H of the searched interval; then the anomaly.
 unfoldable pub reachedOverBy : Finder → Start → Interval → Reached
 reachedOverBy find s d =
     let i = s .initial in
@@ -85,8 +85,8 @@ reachedOverBy find s d =
     let h = firstStepOf i tau in
     pick (not (isFinite (h .0))) (reached.Refused 4 0) (reachedFound s d (find i tau h))
 
--- What comes off an interval before it is searched. T-04's rule is `intervalOf`, and the contracts speak of that; where nothing comes off (`wholly`), it is the call that
--- document 01 alone describes.
+-- What comes off an interval before it is searched. T-04's rule, which the contracts use, is `intervalOf`; with `wholly`, which takes nothing off, it is
+-- the call that document 01 alone describes.
 abbrev pub Parting : Type 0
 Parting = Course → WholeInterval → Interval
 

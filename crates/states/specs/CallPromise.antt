@@ -1,4 +1,4 @@
--- What the two calls promise besides their one answer, beside the demands' own words.
+-- What the two calls promise besides their one answer, next to the demands' own words.
 use mathlib.Core.Path.{_≡_}
 use mathlib.Core.Logic.{_⊎_}
 use mathlib.Core.Bool.{true, false}
@@ -29,8 +29,8 @@ use Rattle.states_start.specs.declared.figures.Read.the-variants as read
 use Rattle.states_start.specs.declared.figures.Begun.the-variants as begun
 use Rattle.states.specs.declared.figures.Answer.{Answer}
 
--- Demand 1: "A bad number, a zero radius, an unreachable time or a damaged file gets the one refusal that the rules give it, with zeros for figures and lent memory
--- unchanged." Which refusal it is, and that there is one, is what the definitions of the calls say.
+-- Demand 1: "A bad number, a zero radius, an unreachable time or a damaged file gets the one refusal that the rules give it, with zeros for figures and lent
+-- memory unchanged." Which refusal it is, and that there is one, is what the definitions of the calls say.
 abbrev pub ZerosOrAnswer : Type 0
 ZerosOrAnswer = (pt : Parting) (pr : Proposing) (words : List ℕ) → (propagateBy pt pr words .refusal ≡ 0) ⊎ (propagateBy pt pr words .results ≡ noResults)
 
@@ -39,11 +39,11 @@ UnchangedOrAnswer =
     (pt : Parting) (pr : Proposing) (words run : List ℕ) →
     (partialsBy pt pr words run .refusal ≡ 0) ⊎ ((partialsBy pt pr words run .results ≡ noResults) × (lentBy pt pr words run ≡ run))
 
--- T-05, of the answer to eight words.
+-- T-05, for the answer to eight words.
 pub record NamesBad (words : List ℕ) (a : Answer) : Type 0 where
-  -- "Give the first bad one by name": where a figure is the first that is NaN or infinite, whatever else could be refused, its number, no points and no figures;
+  -- "Give the first bad one by name": the first figure that is NaN or infinite gives its number, no points and no figures, whatever else could be refused;
   pub named : (k : ℕ) → FirstBad words k → a ≡ refused (figureRefusal k) 0
-  -- and where its number is given, it is the first.
+  -- and where a figure's number is given, it is the first.
   pub told : (k : ℕ) → k < 8 → a .refusal ≡ figureRefusal k → FirstBad words k
   -- "The set of refused inputs is the same": 31 to 38 are given exactly where document 01 gives 2.
   pub refused-all : AnyBad words → (31 ≤ a .refusal) × (a .refusal ≤ 38)
@@ -89,11 +89,11 @@ pub record Searches (pt : Parting) (words : List ℕ) : Type 0 where
   pub whole : WholeInterval
   pub start : Start
   pub course : Course
-  -- Not refused by 31 to 38, which T-05 puts in the place of 2.
+  -- Not refused by 31 to 38, which replace 2 since T-05.
   pub reads : readOf words ≡ read.Orbit orbit whole
-  -- Not by 3, nor by 4 but for H.
+  -- Nor by 3, nor by 4, H apart.
   pub begins : begunOf orbit ≡ begun.Start start course
-  -- Nor for H.
+  -- Nor by 4 for H.
   pub steps : isFinite (firstStepOf (start .initial) (pt course whole .searched) .0) ≡ true
 
 -- The interval of such a call, and the part of it that is searched.
@@ -103,13 +103,13 @@ intervalIn {pt = pt} s = pt (s .course) (s .whole)
 abbrev pub searchedIn : {pt : Parting} {words : List ℕ} → Searches pt words → Seconds
 searchedIn s = intervalIn s .searched
 
--- The place of |H|, from which it searches.
+-- The place of |H|, where the search starts.
 abbrev pub firstPlace : Start → Seconds → ℕ
 firstPlace s tau = placeOf (firstStepOf (s .initial) tau .0)
 
--- "At most 167 trial points are spent, and the reported number is how many the search used. The call answers with that anomaly or refuses by 7 or 8 alone."
--- The anomaly is `anomalyAt` of the searched interval and the place. Since T-01 it reads: "a zero error, or one end of an adjacent short and past pair, chosen so". That is `IsAnomaly`; what it says by
--- sorts is said by document 01's R in `sorts-mean` of crate `search_points`.
+-- "At most 167 trial points are spent, and the reported number is how many the search used. The call answers with that anomaly or refuses by 7 or 8 alone." The
+-- anomaly is `anomalyAt` of the searched interval and the place. Since T-01 demand 3 reads: "a zero error, or one end of an adjacent short and past pair,
+-- chosen so". That is `IsAnomaly`, by sorts; `sorts-mean` of crate `search_points` says the same by document 01's R.
 pub record AnswersAt (pr : Proposing) (s : Start) (d : Interval) (a : Answer) : Type 0 where
   pub place : ℕ
   pub points : ℕ
@@ -120,15 +120,16 @@ pub record AnswersAt (pr : Proposing) (s : Start) (d : Interval) (a : Answer) : 
       (a ≡ answered points (resultsOf (arcOf s d (anomalyAt (d .searched) place))))
       ⊎ ((a ≡ refused 7 points) ⊎ (a ≡ refused 8 points))
 
--- The number that is reported, and ψ of an answer: T-04, "the ψ handed out is the reduced one".
+-- The reported number, and the ψ of an answer: T-04, "the ψ handed out is the reduced one".
 pub record Reports (pr : Proposing) (s : Start) (d : Interval) (a : Answer) : Type 0 where
   pub at : AnswersAt pr s d a
   pub reported : a .points ≡ at .points
   pub psi : a .refusal ≡ 0 → a .results .psi ≡ anomalyAt (d .searched) (at .place)
 
--- Demand 3, whole, for both calls: "Take nonzero time and initial figures that pass refusals 1 to 4. If some of the 41 outward trial points isn't short of the
--- time, and no double from zero to the first such point is unreadable, an anomaly is found. .. All but the number's exact size must hold whatever formula proposes
--- the inner points, one a round." `Findable` is the premise; `pr` is the formula; the record has the rest. The time is the one that is searched, whatever comes off.
+-- Demand 3, whole, for both calls: "Take nonzero time and initial figures that pass refusals 1 to 4. If some of the 41 outward trial points isn't short
+-- of the time, and no double from zero to the first such point is unreadable, an anomaly is found. .. All but the number's exact size must hold
+-- whatever formula proposes the inner points, one a round." `Findable` is the premise; `pr` is the formula; the record has the rest. The time is the
+-- one that is searched, whatever comes off.
 abbrev pub FindsAnomaly : Type 0
 FindsAnomaly =
     (pt : Parting) (pr : Proposing) (words : List ℕ) (s : Searches pt words) → eq (searchedIn s .0) n0 ≡ false →
@@ -136,7 +137,7 @@ FindsAnomaly =
     Reports pr (s .start) (intervalIn s) (propagateBy pt pr words)
     × ((run : List ℕ) → length run ≡ 36 → Reports pr (s .start) (intervalIn s) (partialsBy pt pr words run))
 
--- T-01, "Point counts stay", of both calls, however they end: the points are those of the history, which does not know which end is answered.
+-- T-01, "Point counts stay", for both calls, however they end: the points are those of the history, which does not depend on the end that is answered.
 abbrev pub CountsPoints : Type 0
 CountsPoints =
     (pt : Parting) (pr : Proposing) (words : List ℕ) (s : Searches pt words) → eq (searchedIn s .0) n0 ≡ false →
@@ -145,11 +146,11 @@ CountsPoints =
     let used = length (triedBy (pr i tau) i tau (firstPlace (s .start) tau)) in
     (propagateBy pt pr words .points ≡ used) × ((run : List ℕ) → length run ≡ 36 → partialsBy pt pr words run .points ≡ used)
 
--- What is searched is finite: an interval that is not has no finite H, and is refused by 4.
+-- The searched interval is finite: one that is not has no finite H, and is refused by 4.
 abbrev pub SearchesFinite : Type 0
 SearchesFinite = (pt : Parting) (words : List ℕ) (s : Searches pt words) → isFinite (searchedIn s .0) ≡ true
 
--- T-04: "if that interval is zero, ψ is +0 with no points", of both calls.
+-- T-04: "if that interval is zero, ψ is +0 with no points", for both calls.
 abbrev pub AtOnce : Answer → Type 0
 AtOnce a = (a .points ≡ 0) × (a .refusal ≡ 0 → a .results .psi ≡ record { 0 = n0 })
 
@@ -161,7 +162,8 @@ NothingSearched =
 -- T-04, "else 01 stands": no revolution comes off what the words ask for.
 abbrev pub NoneComesOff : List ℕ → Type 0
 NoneComesOff words =
-    (o : Orbit) (whole : WholeInterval) (s : Start) (c : Course) → readOf words ≡ read.Orbit o whole → begunOf o ≡ begun.Start s c → intervalOf c whole .off ≡ off.Nothing
+    (o : Orbit) (whole : WholeInterval) (s : Start) (c : Course) →
+    readOf words ≡ read.Orbit o whole → begunOf o ≡ begun.Start s c → intervalOf c whole .off ≡ off.Nothing
 
 -- Then every word of every answer, and of the lent run, is that of the call that takes nothing off.
 abbrev pub Else01Stands : Type 0

@@ -1,6 +1,17 @@
 // The call without partials, and what the two calls share: refusals in order of checking, and the answer.
 ghost use mathlib.Core.Path.{_≡_};
-ghost use Rattle.states.specs.Call.{refused, answered, finderOf, reachedFound, reachedOverBy, reachedFromBy, reachedOrbitBy, reachedWordsBy, endedAnswer, propagateOf};
+ghost use Rattle.states.specs.Call.{
+  refused,
+  answered,
+  finderOf,
+  reachedFound,
+  reachedOverBy,
+  reachedFromBy,
+  reachedOrbitBy,
+  reachedWordsBy,
+  endedAnswer,
+  propagateOf,
+};
 ghost use Rattle.states_revolutions.specs.Revolutions.{intervalOf};
 use super::figures::Answer;
 use super::figures::Reached;
@@ -57,7 +68,7 @@ pub fn answered_with(points: u64, results: Results) -> Answer
     }
 }
 
-// The anomaly of an interval, or that it was not found. What is given is taken as it is, without a point.
+// The anomaly of an interval, or that it was not found. A given one is taken as it is, without a point.
 fn find(initial: Initial, tau: Seconds, h: Anomaly, seeking: Seeking) -> search::Finding
     ensures { λ r. ⌜ r ≡ finderOf seeking initial tau h ⌝ }
 {

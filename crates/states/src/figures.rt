@@ -1,15 +1,15 @@
-// Where the way of an orbit leads, and what goes out.
+// Where an anomaly comes from, what it reaches, and the answer.
 use series::Anomaly;
 use states_arcs::Arc;
 use states_arcs::Results;
 
-// How the anomaly of an interval is come by: searched for, or given by somebody.
+// Where the anomaly of an interval comes from: it is searched for, or given.
 pub enum Seeking {
     Search,
     Given(Anomaly),
 }
 
-// Where that leads: the arc of the anomaly, with the points used; or a refusal's number with the points used so far.
+// What is reached: the arc of the anomaly, with the points used; or a refusal's number with the points used so far.
 pub enum Reached {
     End(Arc, u64),
     Refused(u64, u64),

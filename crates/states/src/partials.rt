@@ -25,7 +25,7 @@ fn with_partials(arc: Arc, points: u64, results: Results, run: &mut [u64]) -> An
     answered_with(points, results)
 }
 
-// An arc's results with its partials: refusals 7 and 8, or both.
+// An arc's results with its partials, or refusal 7 or 8.
 fn end_with_partials(arc: Arc, points: u64, run: &mut [u64]) -> Answer
     ensures answer { λ r. ⌜ r ≡ endedWith arc points (endedOf arc) (now (run .entry)) ⌝ }
     ensures lent { λ _. ⌜ now (run .exit) ≡ lentEnded arc (endedOf arc) (now (run .entry)) ⌝ }
@@ -36,7 +36,7 @@ fn end_with_partials(arc: Arc, points: u64, run: &mut [u64]) -> Answer
     }
 }
 
-// The same of eight words, with the 36 partials to the lent run: refusal 1, then as without them, and 8 by the partials too.
+// The same for eight words, with the 36 partials to the lent run: refusal 1, then as without them, and 8 by the partials too.
 pub fn propagate_with_partials(words: [u64; 8], run: &mut [u64]) -> Answer
     ensures answer { λ r. ⌜ r ≡ partialsOf words (now (run .entry)) ⌝ }
     ensures lent { λ _. ⌜ now (run .exit) ≡ lentOf words (now (run .entry)) ⌝ }

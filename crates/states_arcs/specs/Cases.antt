@@ -22,16 +22,34 @@ unfoldable pub arc : Arc
 arc =
     record {
       start = record {
-        state = record { position = vector 0x3ff0000000000000 0x3fd0000000000000 0xbfe0000000000000; velocity = vector 0x3fc0000000000000 0x3ff0000000000000 0x3fe0000000000000 };
-        initial = record { mu = ofWord 0x3ff0000000000000; r0 = ofWord 0x3ff2548eb9151e85; sigma0 = ofWord 0x3fc0000000000000; alpha = ofWord 0xbfdeba415bee70e4 };
+        state = record {
+          position = vector 0x3ff0000000000000 0x3fd0000000000000 0xbfe0000000000000;
+          velocity = vector 0x3fc0000000000000 0x3ff0000000000000 0x3fe0000000000000;
+        };
+        initial = record {
+          mu = ofWord 0x3ff0000000000000;
+          r0 = ofWord 0x3ff2548eb9151e85;
+          sigma0 = ofWord 0x3fc0000000000000;
+          alpha = ofWord 0xbfdeba415bee70e4;
+        };
       };
       interval = asItIs (record { 0 = ofWord 0x3ff8000000000000 });
       psi = record { 0 = ofWord 0x3ff255aca3e4576b };
-      c = record { c0 = ofWord 0x3fe66e82045bd53e; c1 = ofWord 0x3fecbdf2fc2ef72a; c2 = ofWord 0x3fde5a8d8ff8d38f; c3 = ofWord 0x3fc4abbd2141c054; c4 = ofWord 0x3fa4e3d878cc4994; c5 = ofWord 0x3f80d00de80e1f08 };
+      c = record {
+        c0 = ofWord 0x3fe66e82045bd53e;
+        c1 = ofWord 0x3fecbdf2fc2ef72a;
+        c2 = ofWord 0x3fde5a8d8ff8d38f;
+        c3 = ofWord 0x3fc4abbd2141c054;
+        c4 = ofWord 0x3fa4e3d878cc4994;
+        c5 = ofWord 0x3f80d00de80e1f08;
+      };
       s = record { s1 = ofWord 0x3ff077cc4b76f8e1; s2 = ofWord 0x3fe3edda63bbe08d; s3 = ofWord 0x3fcf1aa574f1a678 };
       r = ofWord 0x3ff8df55ff2a8950;
       factors = record { f = ofWord 0x3fdd35799e220d0a; g = ofWord 0x3ff41cab5161cb31; fprime = ofWord 0xbfe27e5f11c0c308; gprime = ofWord 0x3fe32e1055907d3c };
-      end = record { position = vector 0x3fe3a1e7a3697951 0x3ff5f002eb43ec02 0x3fd99e99d3b28fdd; velocity = vector 0xbfe0189d070eb360 0x3fdd1cf1224098f4 0x3fe2d637b3a8a022 };
+      end = record {
+        position = vector 0x3fe3a1e7a3697951 0x3ff5f002eb43ec02 0x3fd99e99d3b28fdd;
+        velocity = vector 0xbfe0189d070eb360 0x3fdd1cf1224098f4 0x3fe2d637b3a8a022;
+      };
     }
 
 its-parts : arcOf (arc .start) (arc .interval) (arc .psi) ≡ arc

@@ -138,7 +138,7 @@ pub fn figures_of(results: Results) -> [u64; 13]
     ]
 }
 
-// The results of an arc: refusal 7, then refusal 8 without what is the partials' own, then the thirteen figures.
+// The results of an arc: refusal 7, then refusal 8 without the partials' own part, then the thirteen figures.
 pub fn ended(arc: Arc) -> Ended
     ensures { λ e. ⌜ e ≡ endedOf arc ⌝ }
 {

@@ -45,7 +45,7 @@ use Rattle.states.proofs.CallPromise.{foundBy, leads, reaches, Settled, settled
 use Rattle.states_check.specs.Row.{nineWords, proposed, endsWith, acceptsAt, acceptsFrom, accepts}
 use Rattle.states_check.specs.RowPromise.{Acceptable, AcceptsExactly, anomalyIn, nineIn, AcceptsOwn, OwnWords, NotBeforeSearch}
 
--- ---- However an anomaly is come by, an arc is reached where the input gets as far as the search and the anomaly is found; otherwise there is a number.
+-- ---- Whether an anomaly is searched for or given, an arc is reached where the input gets as far as the search and the anomaly is found; otherwise there is a number.
 record ArcAt (find : Finder) (given : List ℕ) (arc : Arc) (n : ℕ) : Type 0 where
   searches : Searches intervalOf given
   psi : Anomaly

@@ -1,5 +1,6 @@
--- Document 02, T-06: "Partners send rows with eight input words, a proposed anomaly and the nine end figures of position, velocity and acceleration. We want a yes or no
--- per row, without rerunning the search." What is "yes" in the document's own words is `Acceptable` of RowPromise; here it is told, step by step, as the code tells it.
+-- Document 02, T-06: "Partners send rows with eight input words, a proposed anomaly and the nine end figures of position, velocity and acceleration.
+-- We want a yes or no per row, without rerunning the search." What "yes" is in the document's own words is `Acceptable` of RowPromise; here it is
+-- worked out step by step, as in the code.
 use mathlib.Core.Bool.{Bool, false}
 use mathlib.Core.List.{List}
 use Prim.Native.Nat.{ℕ}
@@ -33,7 +34,7 @@ abbrev pub endsWith : Ended → (nine : List ℕ) → Bool
 endsWith (ended.Results r) nine = sameWords (nineWords r) nine
 endsWith (ended.Refused k) nine = false
 
--- The anomaly is right for the interval that is searched, and the arc ends so "at that anomaly".
+-- The anomaly is right for the interval that is searched, and the arc ends with the nine figures "at that anomaly".
 unfoldable pub acceptsAt : Arc → (anomaly : ℕ) (nine : List ℕ) → Bool
 acceptsAt arc anomaly nine = pick (isRight (arc .start .initial) (arc .interval .searched) anomaly) (endsWith (endedOf arc) nine) false
 
@@ -41,6 +42,7 @@ abbrev pub acceptsFrom : Reached → (anomaly : ℕ) (nine : List ℕ) → Bool
 acceptsFrom (reached.End arc n) anomaly nine = acceptsAt arc anomaly nine
 acceptsFrom (reached.Refused k n) anomaly nine = false
 
--- A row: its eight input words, its anomaly and its nine figures. The call's own way, with its refusals 31 to 38, 3 and 4 and T-04's reduction, but the anomaly is given.
+-- A row: its eight input words, its anomaly and its nine figures. The steps are the call's, with its refusals 31 to 38, 3 and 4 and
+-- T-04's reduction, but the anomaly is given.
 unfoldable pub accepts : (given : List ℕ) (anomaly : ℕ) (nine : List ℕ) → Bool
 accepts given anomaly nine = acceptsFrom (reachedWordsBy intervalOf (taking (proposed anomaly)) given) anomaly nine

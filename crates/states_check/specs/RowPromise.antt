@@ -19,15 +19,15 @@ use Rattle.states.specs.CallPromise.{Searches, intervalIn, searchedIn}
 use Rattle.states.specs.declared.figures.Answer.{Answer}
 use Rattle.states_check.specs.Row.{nineWords, proposed, accepts}
 
--- "Yes exactly when refusals 31 to 38, 3 and 4 don't apply, the anomaly is +0 for zero τ, or otherwise has the sign of τ and is exact, or is the answer T-01 picks from its
--- adjacent pair (the next place out if it is short, the next in if past), and the nine figures equal 01's formulas in every bit at that anomaly with 7 and 8 not applying.
--- T-04's reduction is made first."
+-- "Yes exactly when refusals 31 to 38, 3 and 4 don't apply, the anomaly is +0 for zero τ, or otherwise has the sign of τ and is exact, or is the answer T-01
+-- picks from its adjacent pair (the next place out if it is short, the next in if past), and the nine figures equal 01's formulas in every bit at that anomaly
+-- with 7 and 8 not applying. T-04's reduction is made first."
 pub record Acceptable (given : List ℕ) (anomaly : ℕ) (nine : List ℕ) : Type 0 where
-  -- 31 to 38, 3 and 4, by H of what is searched too: the call would get as far as its search.
+  -- 31 to 38, 3 and 4, also by the H of the searched interval: the call would get as far as its search.
   pub searches : Searches intervalOf given
-  -- Of the interval that is searched.
+  -- For the interval that is searched.
   pub right : Right (searches .start .initial) (searchedIn searches) anomaly
-  -- 7 and 8 don't apply at it, and these are the results. 8 is said of all that the call answers, the start's acceleration included, which no row carries.
+  -- 7 and 8 don't apply at the anomaly, and these are the results. 8 is about all that the call answers, also the start's acceleration, which no row carries.
   pub results : Results
   pub ends : endedOf (arcOf (searches .start) (intervalIn searches) (proposed anomaly)) ≡ ended.Results results
   pub figures : nineWords results ≡ nine
@@ -48,7 +48,7 @@ anomalyIn a = toBits binary64 (a .results .psi .0)
 abbrev pub nineIn : Answer → List ℕ
 nineIn a = nineWords (a .results)
 
--- They are words of the fifteen that the call answers: ψ is the last; position, velocity and end acceleration are the nine behind the refusal and the points.
+-- They are among the fifteen words that the call answers: ψ is the last; position, velocity and end acceleration are the nine after the refusal and the points.
 pub record InAnswer (a : Answer) : Type 0 where
   pub anomaly : anomalyIn a ≡ getD (answerWords a) 14 0
   pub nine : nineIn a ≡ take 9 (drop 2 (answerWords a))
@@ -62,9 +62,10 @@ AcceptsOwn =
     (pr : Proposing) (given : List ℕ) → let a = propagateBy intervalOf pr given in a .refusal ≡ 0 →
     accepts given (anomalyIn a) (nineIn a) ≡ true
 
--- ---- No accepted row could be refused by 31 to 38, 3 or 4, nor at its own anomaly by 7 or 8: our own call on its input, whatever formula proposes its inner points.
+-- ---- Our own call on the input of an accepted row is not refused by 31 to 38, 3 or 4, nor at the row's anomaly by 7 or 8,
+-- whatever formula proposes its inner points.
 pub record BesideCall (pr : Proposing) (given : List ℕ) (anomaly : ℕ) (nine : List ℕ) (s : Searches intervalOf given) : Type 0 where
-  -- It is refused by nothing that comes before the search: it answers, or its refusal is one of 5 to 8.
+  -- Nothing before the search refuses it: it answers, or its refusal is one of 5 to 8.
   pub after-search : let a = propagateBy intervalOf pr given in (a .refusal ≡ 0) ⊎ ((5 ≤ a .refusal) × (a .refusal ≤ 8))
   -- Where its search finds the row's anomaly, it is not refused by 7 or 8 either: it answers, and with the row's figures.
   pub at-anomaly :
@@ -74,4 +75,5 @@ pub record BesideCall (pr : Proposing) (given : List ℕ) (anomaly : ℕ) (nine 
       (n : ℕ) → searchBy (pr i tau) i tau (firstStepOf i tau) ≡ finding.Found (proposed anomaly) n → (a .refusal ≡ 0) × (nineIn a ≡ nine)
 
 abbrev pub NotBeforeSearch : Type 0
-NotBeforeSearch = (pr : Proposing) (given : List ℕ) (anomaly : ℕ) (nine : List ℕ) (x : Acceptable given anomaly nine) → BesideCall pr given anomaly nine (x .searches)
+NotBeforeSearch =
+    (pr : Proposing) (given : List ℕ) (anomaly : ℕ) (nine : List ℕ) (x : Acceptable given anomaly nine) → BesideCall pr given anomaly nine (x .searches)

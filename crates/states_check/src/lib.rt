@@ -1,4 +1,5 @@
-// Layer 4: whether a row of another station is accepted: its eight input words, its anomaly and its nine end figures, held to the rules without a search (document 02, T-06).
+// Layer 4: whether a row of another station is accepted: its eight input words, its anomaly and its nine end figures, held to the
+// rules without a search (document 02, T-06).
 ghost use mathlib.Core.Path.{_≡_};
 ghost use Rattle.states_check.specs.Row.{endsWith, acceptsAt, accepts};
 use bits::words::double_of;
@@ -12,7 +13,7 @@ use states_arcs::Ended;
 use states_arcs::ended;
 use states_arcs::figures_of;
 
-// Whether an arc ends with these nine words, by neither 7 nor 8.
+// Whether an arc ends with these nine words, and not with refusal 7 or 8.
 fn ends_with(end: Ended, nine: [u64; 9]) -> bool
     ensures { λ r. ⌜ r ≡ endsWith end nine ⌝ }
 {
@@ -35,7 +36,7 @@ fn accepts_at(arc: Arc, anomaly: u64, nine: [u64; 9]) -> bool
     false
 }
 
-// Whether a row is accepted: `given` are its eight input words, `nine` its position, velocity and end acceleration. It goes the call's own way, without a search.
+// Whether a row is accepted: `given` are its eight input words, `nine` its position, velocity and end acceleration. Its steps are the call's, without a search.
 pub fn accepts(given: [u64; 8], anomaly: u64, nine: [u64; 9]) -> bool
     ensures { λ r. ⌜ r ≡ accepts given anomaly nine ⌝ }
 {

@@ -1,5 +1,5 @@
--- The 36 partials of three arcs, evaluated from the definitions: of the lower crate's case, and of two with whole revolutions. The figures come from an independent
--- program.
+-- The 36 partials of three arcs, evaluated from the definitions: of the lower crate's case, and of two with whole revolutions. The
+-- figures come from an independent program.
 use mathlib.Core.Path.{_≡_, refl}
 use mathlib.Core.List.{[], _∷_}
 use mathlib.Core.Bool.{false}
@@ -33,8 +33,9 @@ its-partials :
 unfolding add sub mul div neg ofBits toBits asItIs uAtFound uOf matrixOf plusOf minusOf partialOf unitOf componentOf entryOf upTo entriesOf arc
 its-partials = refl
 
--- T-04: a circle, μ = 1, position (1,0,0), velocity (0,1,0), after three whole revolutions. Nothing is left to search, and ψ is +0. A start that is
--- a little off has another period, and the body is ahead or behind by more with each second: the four entries that are not a unit matrix's are −3·τ and 3·τ, with τ = 18.85.
+-- T-04: a circle, μ = 1, position (1,0,0), velocity (0,1,0), after three whole revolutions. Nothing is left to search, and ψ is +0. A start that
+-- is a little off has another period, and the body gets further ahead or behind with each second: the four entries that differ from a unit
+-- matrix's are −3·τ and 3·τ, with τ = 18.85.
 a-circle : Start
 a-circle =
     record {
@@ -58,7 +59,10 @@ it-comes-round :
     ∷ 0x8000000000000000 ∷ 0x8000000000000000 ∷ 0x8000000000000000 ∷ 0 ∷ 0x3ff0000000000000 ∷ 0
     ∷ 0x8000000000000000 ∷ 0x8000000000000000 ∷ 0x8000000000000000 ∷ 0 ∷ 0 ∷ 0x3ff0000000000000
     ∷ [])
-unfolding add sub mul div neg lt eq ofInt ofBits toBits firstOf has a-circle its-course three-times floorOf asItIs withoutN withoutRevolutions intervalOf beyondOne reducedFrom nested c4Of c5Of atReduced coefficientsOf sumsOf radiusOf factorsOf endStateOf arcOf wholeAnomalyOf wholeSumsOf uAtWhole uOf uRefused matrixOf plusOf minusOf partialOf unitOf componentOf entryOf upTo entriesOf
+unfolding
+    add sub mul div neg lt eq ofInt ofBits toBits firstOf has a-circle its-course three-times floorOf asItIs withoutN withoutRevolutions intervalOf
+    beyondOne reducedFrom nested c4Of c5Of atReduced coefficientsOf sumsOf radiusOf factorsOf endStateOf arcOf wholeAnomalyOf wholeSumsOf uAtWhole uOf
+    uRefused matrixOf plusOf minusOf partialOf unitOf componentOf entryOf upTo entriesOf
 it-comes-round = (refl, refl)
 
 -- The lower crate's orbit for 40 s: two revolutions of 18.89 s come off, and at the ψ of what is left no sum is zero.
@@ -77,5 +81,8 @@ it-goes-on :
     ∷ 0x40460a3b1af1c573 ∷ 0x402675945d953628 ∷ 0xc0358f4d345c2f19 ∷ 0x402203cca304d1f8 ∷ 0x4050749d850bc64d ∷ 0x4040181508ae7890
     ∷ 0x40352842ac1fb0d2 ∷ 0x4015befcbf59db59 ∷ 0xc026389353ee2662 ∷ 0x4010906bc58e878e ∷ 0x403ff36364a8ba0d ∷ 0x40304256f771f1ef
     ∷ [])
-unfolding add sub mul div neg lt eq ofInt ofBits toBits firstOf has arc two-laps floorOf asItIs withoutN withoutRevolutions intervalOf beyondOne reducedFrom nested c4Of c5Of atReduced doublings quotientsOf coefficientsOf sumsOf radiusOf factorsOf endStateOf arcOf wholeAnomalyOf wholeSumsOf uAtWhole uOf uRefused matrixOf plusOf minusOf partialOf unitOf componentOf entryOf upTo entriesOf
+unfolding
+    add sub mul div neg lt eq ofInt ofBits toBits firstOf has arc two-laps floorOf asItIs withoutN withoutRevolutions intervalOf beyondOne reducedFrom
+    nested c4Of c5Of atReduced doublings quotientsOf coefficientsOf sumsOf radiusOf factorsOf endStateOf arcOf wholeAnomalyOf wholeSumsOf uAtWhole uOf
+    uRefused matrixOf plusOf minusOf partialOf unitOf componentOf entryOf upTo entriesOf
 it-goes-on = (refl, refl)

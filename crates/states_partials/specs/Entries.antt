@@ -33,14 +33,14 @@ unfoldable pub componentOf : Vector → ℕ → Float
 componentOf v i = pick (eqb i 0) (v .x) (pick (eqb i 1) (v .y) (v .z))
 
 -- "p by u is g·I plus the same with A22 A23 A32 A33 in those places; w by q is f'·I minus it with A11 A12 A21 A22; w by u is g'·I minus it with A12 A13 A22
--- A23." The first two arguments say whether it is the partial of p, or of w, and whether by q, or by u.
+-- A23." The first two arguments say whether it is the partial of p or of w, and whether by q or by u.
 unfoldable pub partialOf : (ofPosition byPosition : Bool) → Factors → Matrix → (unit p w q u : Float) → Float
 partialOf true true k a unit p w q u = plusOf (k .f) unit (a .a21) (a .a22) (a .a31) (a .a32) p w q u
 partialOf true false k a unit p w q u = plusOf (k .g) unit (a .a22) (a .a23) (a .a32) (a .a33) p w q u
 partialOf false true k a unit p w q u = minusOf (k .fprime) unit (a .a11) (a .a12) (a .a21) (a .a22) p w q u
 partialOf false false k a unit p w q u = minusOf (k .gprime) unit (a .a12) (a .a13) (a .a22) (a .a23) p w q u
 
--- "Rows: position then velocity; columns likewise": rows 0 to 2 are of position, 3 to 5 of velocity, and so the columns.
+-- "Rows: position then velocity; columns likewise": rows 0 to 2 are of position, 3 to 5 of velocity, and so are the columns.
 unfoldable pub entryOf : Arc → Matrix → (row column : ℕ) → Float
 entryOf arc a row column =
     partialOf (ltb row 3) (ltb column 3) (arc .factors) a (unitOf (row % 3) (column % 3))

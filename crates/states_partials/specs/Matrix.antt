@@ -32,6 +32,6 @@ matrixOf a u =
     matrixFrom (a .start .initial .mu) (a .start .initial .r0) (a .r) (a .c .c0) (a .s .s1) (a .s .s2)
     (a .factors .f) (a .factors .g) (a .factors .fprime) (a .factors .gprime) u
 
--- The divisors of A11; then those that A12, A13, A21 and A31 have besides.
+-- The divisors of A11; then the further ones of A12, A13, A21 and A31.
 abbrev pub matrixDivisors : (r0 r : Float) → List Float
 matrixDivisors r0 r = (r ⊗ r0) ∷ (r0 ⊗ r0) ∷ (r ⊗ r) ∷ (cube r ⊗ cube r0) ∷ r ∷ cube r ∷ r0 ∷ cube r0 ∷ []

@@ -84,8 +84,8 @@ fn entry(arc: Arc, a: Matrix, row: usize, column: usize, p: f64, w: f64) -> f64
     partial(row < 3, column < 3, arc.factors, a, unit, p, w, q, u)
 }
 
-// The words of the 36 partials, row by row. The columns have their own loop, so that the compiler can write a row's six out: which formula an entry has is
-// then known.
+// The words of the 36 partials, row by row. The columns have their own loop, so that the compiler can write out a row's six
+// entries: the formula of each is then known.
 pub fn entries(arc: Arc) -> [u64; 36]
     ensures { λ r. ⌜ r ≡ wordsOf (entriesOf arc) ⌝ }
 {

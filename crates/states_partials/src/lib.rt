@@ -15,9 +15,9 @@ pub use matrix::matrix_of;
 pub use u::u_of;
 pub use u::u_refused;
 
-// Writes the words of the 36 partials of an arc to the run, or none of them: refusal 1 where the run isn't exactly 36 long, 8 where a divisor of theirs is
-// zero, or one of them or what U is made of isn't finite, else 0. A partial of position by position and of velocity by velocity is a number, of position by velocity in s, of
-// velocity by position in 1/s.
+// Writes the words of the 36 partials of an arc to the run, or none of them. Refusal 1 where the run isn't exactly 36 long; 8 where a divisor of theirs is
+// zero, or a partial or a figure that U is made of isn't finite; else 0. Partials of position by position and of velocity by velocity are numbers, of position
+// by velocity in s, of velocity by position in 1/s.
 pub fn write_partials(arc: Arc, run: &mut [u64]) -> u64
     ensures refusal { λ r. ⌜ r ≡ partialsRefusal arc (now (run .entry)) ⌝ }
     ensures lent { λ _. ⌜ now (run .exit) ≡ lentAfter arc (now (run .entry)) ⌝ }

@@ -1,4 +1,5 @@
-// U, of which A11 to A33 are made: at the found anomaly, or, where whole revolutions came off, at the whole one (document 01, "Results and partials"; document 02, T-04).
+// U, of which A11 to A33 are made: at the found anomaly, or, where whole revolutions came off, at the whole one (document 01,
+// "Results and partials"; document 02, T-04).
 ghost use mathlib.Core.Path.{_≡_};
 ghost use Rattle.bits.specs.Words.{wordsOf};
 ghost use Rattle.states_partials.specs.U.{wholeAnomalyOf, wholeSumsOf, uAtFound, uAtWhole, uFigures, uOf, uRefused};
@@ -19,7 +20,7 @@ pub struct WholeSums {
     pub s5: f64,
 }
 
-// The whole anomaly of an arc: what was found, and n·Q.
+// The whole anomaly of an arc: the found one and n·Q.
 fn whole_anomaly(arc: Arc, off: Anomaly) -> WholeAnomaly
     ensures { λ r. ⌜ r ≡ wholeAnomalyOf arc off ⌝ }
 {
@@ -82,7 +83,7 @@ pub fn u_of(arc: Arc) -> f64
     }
 }
 
-// Refusal 8 by what U is made of at the whole anomaly.
+// Whether what U is made of at the whole anomaly gives refusal 8.
 pub fn u_refused(arc: Arc) -> bool
     ensures { λ r. ⌜ r ≡ uRefused arc ⌝ }
 {

@@ -19,7 +19,7 @@ pub record IsFloor (s : Bool) (a c : ℕ) (n : ℤ) : Type 0 where
   pub not-above : (n *ℤ pos c) ≤ℤ signed s a
   pub next-above : signed s a <ℤ (sucℤ n *ℤ pos c)
 
--- The same, computed: the quotient rounded down, or minus the quotient rounded up. `is-floor` and `one-floor` say that it is the floor, and that there is no other.
+-- The same, computed: the quotient rounded down, or minus the quotient rounded up. `is-floor` and `one-floor` say that it is the floor, and the only one.
 abbrev pub floorOfFraction : (s : Bool) (a c : ℕ) → ℤ
 floorOfFraction false a c = pos (a / c)
 floorOfFraction true a c = negℤ (pos ((a + (c - 1)) / c))

@@ -1,6 +1,6 @@
--- Document 02, T-04: "For α < 0 and μ > 0, with π the nearest double (400921FB54442D18 hex), the period is P = ((2·π)·μ)/((−α)·root(−α)), n is the floor of the
--- rounded sum τ/P+1/2, and the search and f, g use τ − n·P, each step rounded. This is done only when P is finite and above zero and n is within ±2^40 and not 0;
--- else 01 stands."
+-- Document 02, T-04: "For α < 0 and μ > 0, with π the nearest double (400921FB54442D18 hex), the period is P = ((2·π)·μ)/((−α)·root(−α)), n is the
+-- floor of the rounded sum τ/P+1/2, and the search and f, g use τ − n·P, each step rounded. This is done only when P is finite and above zero and n is
+-- within ±2^40 and not 0; else 01 stands."
 use mathlib.Core.Bool.{Bool, _&&_}
 use lib.Ieee.{Float, binary64, neg, lt, eq, ofBits}
 use Rattle.bits.specs.Choice.{pick}
@@ -35,7 +35,7 @@ isClosed i = lt (i .alpha) n0 && lt n0 (i .mu)
 unfoldable pub isUsable : Revolution → Bool
 isUsable v = isFinite (v .period .0) && lt n0 (v .period .0)
 
--- It is the state's, and no interval's.
+-- It belongs to the state, not to an interval.
 unfoldable pub courseOf : Initial → Course
 courseOf i = pick (isClosed i) (pick (isUsable (revolutionOf i)) (course.Closed (revolutionOf i)) course.Open) course.Open
 

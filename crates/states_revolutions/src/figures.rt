@@ -11,13 +11,13 @@ pub struct Revolution {
     pub anomaly: Anomaly,
 }
 
-// Whether whole revolutions can come off the intervals of an orbit: it closes, and has a period that can be used; or it does not.
+// Whether whole revolutions can come off the intervals of an orbit: only where it closes and its period can be used.
 pub enum Course {
     Closed(Revolution),
     Open,
 }
 
-// The floor of a double: a whole number within ±2^40, as a double; or there is none within.
+// The floor of a double: a whole number within ±2^40, as a double; or it is beyond them.
 pub enum Floor {
     Whole(f64),
     Beyond,

@@ -23,7 +23,7 @@ fn floor_from_zero(x: f64) -> Floor
     Floor::Beyond
 }
 
-// The floor of a double below zero: the size, rounded up, with a minus.
+// The floor of a double below zero: its magnitude, rounded up, with a minus.
 fn floor_below_zero(x: f64) -> Floor
     requires { ⌜ lt x n0 ≡ true ⌝ }
     ensures { λ r. ⌜ r ≡ floorOf x ⌝ }

@@ -41,7 +41,7 @@ fn is_usable(revolution: Revolution) -> bool
     bits::words::is_finite(revolution.period.0) && revolution.period.0 > 0.0
 }
 
-// The course of an orbit. It belongs to the state and to no interval: many can share it.
+// The course of an orbit. It belongs to the state, not to an interval: many can share it.
 pub fn course_of(initial: Initial) -> Course
     ensures { λ r. ⌜ r ≡ courseOf initial ⌝ }
 {
@@ -55,7 +55,7 @@ pub fn course_of(initial: Initial) -> Course
     Course::Closed(revolution)
 }
 
-// An interval of which nothing comes off: all of it is searched.
+// An interval that nothing comes off: all of it is searched.
 fn as_it_is(whole: WholeInterval) -> Interval
     ensures { λ r. ⌜ r ≡ asItIs whole ⌝ }
 {

@@ -36,7 +36,7 @@ alone :
 unfolding firstOf has readOf eq ofBits
 alone = (refl, refl, refl, refl, refl, refl, refl, refl)
 
--- Of several the first: of vy and τ, of μ and x, of all eight.
+-- The first of several: of vy and τ, of μ and x, of all eight.
 of-several :
     (readOf (0 ∷ 0 ∷ 0 ∷ 0 ∷ 0 ∷ infinite ∷ 0 ∷ nan ∷ []) ≡ read.Refused 36)
     × (readOf (nan ∷ infinite ∷ 0 ∷ 0 ∷ 0 ∷ 0 ∷ 0 ∷ 0 ∷ []) ≡ read.Refused 31)
@@ -68,5 +68,7 @@ figures :
     (readOf an-orbit ≡ read.Orbit (orbit an-orbit) (interval an-orbit))
     × (begunOf (orbit an-orbit) ≡ begun.Start (record { state = orbit an-orbit .state; initial = its-initial }) its-course)
     × (firstStepOf its-initial (record { 0 = interval an-orbit .0 }) .0 ≡ ofBits binary64 0x3eb4f2ec413cb52b)
-unfolding an-orbit its-initial its-course revolutionOf isClosed isUsable courseOf neg lt firstOf has readOf dot begunOf firstStepOf rootWordOf rootOf add sub mul div eq ofBits toBits
+unfolding
+    an-orbit its-initial its-course revolutionOf isClosed isUsable courseOf neg lt firstOf has readOf dot begunOf firstStepOf rootWordOf rootOf add
+    sub mul div eq ofBits toBits
 figures = (refl, refl, refl)

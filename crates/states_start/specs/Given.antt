@@ -29,7 +29,8 @@ orbit words = record { mu = doubleAt words 0; state = record { position = vector
 abbrev pub interval : List ℕ → WholeInterval
 interval words = record { 0 = doubleAt words 7 }
 
--- T-05: "Give the first bad one by name, in the order μ, x, y, z, vx, vy, vz, τ." "31 to 38 replace 2, at its place". The refusal of a figure by its number among the eight, from 0.
+-- T-05: "Give the first bad one by name, in the order μ, x, y, z, vx, vy, vz, τ." "31 to 38 replace 2, at its place". The refusal of a
+-- figure by its number among the eight, from 0.
 abbrev pub figureRefusal : ℕ → ℕ
 figureRefusal k = 31 + k
 

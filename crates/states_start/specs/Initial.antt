@@ -28,8 +28,8 @@ dot a b = (a .x ⊗ b .x ⊕ a .y ⊗ b .y) ⊕ a .z ⊗ b .z
 abbrev pub startFrom : State → Initial → Begun
 startFrom s i = begun.Start (record { state = s; initial = i }) (courseOf i)
 
--- "α = v² − (2·μ)/r0". Refusal 3: "(x·x+y·y)+z·z is zero". Refusal 4: "that sum, σ0, v², (2·μ)/r0, α or H below isn't finite"; H is the interval's,
--- and refused where the interval is (Call of crate `states`).
+-- "α = v² − (2·μ)/r0". Refusal 3: "(x·x+y·y)+z·z is zero". Refusal 4: "that sum, σ0, v², (2·μ)/r0, α or H below isn't finite"; H belongs to the interval, and
+-- its refusal is in Call of crate `states`.
 abbrev pub begunFrom : Orbit → (sum r0 sigma0 v2 : Float) → Begun
 begunFrom o sum r0 sigma0 v2 =
     let quotient = (n2 ⊗ o .mu) ⊘ r0 in

@@ -37,8 +37,8 @@ fn tested(sum: f64, sigma0: f64, v2: f64, quotient: f64, alpha: f64) -> [u64; 5]
     ]
 }
 
-// r0 (km), sigma0 (km^2/s) and alpha (km^2/s^2) of an orbit, beside its mu and its state, and its course; refusal 3, then 4. H, which is the interval's,
-// stands apart: see `first_step`.
+// r0 (km), sigma0 (km^2/s) and alpha (km^2/s^2) of an orbit, beside its mu and its state, and its course; refusal 3, then 4. H
+// belongs to the interval: see `first_step`.
 pub fn start_of(orbit: Orbit) -> Begun
     ensures { λ r. ⌜ r ≡ begunOf orbit ⌝ }
 {

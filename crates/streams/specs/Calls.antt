@@ -1,5 +1,5 @@
--- What the answer of one call of read or write means, by POSIX: how many bytes it moved, 0 where it moved none, or -1 with a reason in errno; and what a loop does
--- after it.
+-- What the answer of one call of read or write means, by POSIX: how many bytes it moved, 0 where it moved none, or -1 with a reason
+-- in errno; and what a loop does after it.
 use Prim.Native.Nat.{ℕ, zero, suc, _-_, _<_, _≤_}
 use mathlib.Core.Path.{_≡_}
 use mathlib.Core.Bool.{Bool, true, false}

@@ -28,7 +28,7 @@ pub enum Taken {
 // signals do.
 pub const PATIENCE: u64 = 1_000_000;
 
-// What a call has done that answered `got`; where that is -1, errno says whether it was a signal.
+// What a call that answered `got` has done; where `got` is -1, errno says whether it was a signal.
 pub fn call_of(got: isize, signal: bool) -> Call
     ensures { λ r. ⌜ r ≡ callOf got signal ⌝ }
 {
