@@ -64,7 +64,7 @@ listed() {
             /^file: / { specs = /^file: specs\// }
             /^old: / {
                 if (specs) definition = 1
-                else if (/ensures|⌜/) promise = 1
+                else if (/ensures|⌜|⌝|\.entry|\.exit/) promise = 1
                 else code = 1
             }
             END {
