@@ -8,6 +8,7 @@ rm -f build/verdict
 { rt ci 2>&1 && echo 'rt ci: status 0'; } | tee build/rt-ci.log | sed -e '/^rt ci: status 0$/d' -e '/^[0-9]* passed, [0-9]* failed$/d'
 if [ "$(tail -n 1 build/rt-ci.log)" != 'rt ci: status 0' ]; then
     tail -n 1 build/rt-ci.log
+    echo 'verdict: rt ci has not passed: build/rt-ci.log has what it said' >&2
     exit 1
 fi
 sed -i '$d' build/rt-ci.log
