@@ -58,7 +58,7 @@ TESTS = $(COMPARISONS) $(SELFTEST) $(GUIDED) build/tests/compared/root $(CASES)
 # ---- What must hold.
 
 # rt ci proves everything once, from nothing; what the C tests link is made of that. Its last line is held back until they have passed.
-check: layout map promises made header verdict test
+check: layout made header verdict promises map test
 	@cat build/verdict
 
 verdict: kit
@@ -92,11 +92,13 @@ layout: kit
 	@rt fmt --check || { echo 'layout: run rt fmt, and look at what it changed'; exit 1; }
 	@sh tests/tree/columns.sh
 
-map:
-	@sh tests/tree/map.sh
-
-promises:
+# These two ask what rt has proved.
+promises: kit
 	@sh tests/tree/promises.sh
+	@sh tests/tree/promises_tried.sh
+
+map: kit
+	@sh tests/tree/map.sh
 
 made: machine
 	@sh tests/tree/tables.sh

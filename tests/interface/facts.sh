@@ -16,6 +16,12 @@ fail() {
 tools=''
 [ "$(uname -m)" = x86_64 ] || tools=x86_64-linux-gnu-
 
+# ---- The calls of the header, no more and no fewer.
+
+"${tools}nm" -g --defined-only build/libkelubashi.a | awk 'NF == 3 { print $3 }' | sort -u >"$room/symbols"
+grep -o '^uint64_t kelubashi[0-9]*_[a-z_]*' include/kelubashi.h | cut -d ' ' -f 2 | sort -u >"$room/calls"
+diff "$room/calls" "$room/symbols" || fail "the header's calls are marked <, the archive's symbols >"
+
 # ---- No state, and nothing of libc but memset.
 
 "${tools}nm" build/libkelubashi.a >"$room/names"

@@ -17,7 +17,7 @@ say() {
 # ---- Promises and wrong programs. A promise is CRATE FUNCTION, or FUNCTION of the crate whose program it is; a function may have its type or its
 # module before it: Section::width, words::append. A program shows nothing; what it promises is the step between its reading and its writing.
 
-{ sh tests/tree/promises.sh list && echo 'propagate main - results_of'; } >"$room/shown"
+{ sh tests/tree/promises.sh list && echo 'propagate results_of'; } >"$room/shown"
 for edit in crates/*/must-fail/*.edit tests/wrong/*/*.edit; do
     crate=$(echo "$edit" | sed 's|^crates/||; s|^tests/wrong/||; s|/.*||')
     sed -n '1s/: .*//; 1s/^# //p' "$edit" | tr ',' '\n' | awk -v crate="$crate" -v edit="$edit" '{ print edit, NF == 2 ? $1 : crate, $NF }' >"$room/names"
@@ -25,17 +25,17 @@ for edit in crates/*/must-fail/*.edit tests/wrong/*/*.edit; do
     cat "$room/names"
 done >"$room/broken"
 awk '
-    NR == FNR { shown[NR] = $0; last = NR; next }
+    NR == FNR { crate[NR] = $1; path[NR] = "." $2; last = NR; next }
     {
+        name = "." $3
+        gsub(/::/, ".", name)
         count = 0
-        for (i = 1; i <= last; i++) {
-            split(shown[i], of, " ")
-            if ($2 == of[1] && ($3 == of[4] && of[3] == "-" || $3 == of[3] "::" of[4] || $3 == of[2] "::" of[4])) { many[i]++; count++ }
-        }
+        for (i = 1; i <= last; i++)
+            if ($2 == crate[i] && substr(path[i], length(path[i]) - length(name) + 1) == name) { many[i]++; count++ }
         if (count != 1) print $1 ": " $2 " " $3 " is " (count == 0 ? "no function that a crate shows" : "not one function alone: give its module or type")
     }
     END {
-        for (i = 1; i <= last; i++) if (many[i] < 2) print shown[i] ": this function has " many[i] + 0 " wrong programs: write two"
+        for (i = 1; i <= last; i++) if (many[i] < 2) print crate[i] " " substr(path[i], 2) ": this function has " many[i] + 0 " wrong programs: write two"
     }' "$room/shown" "$room/broken" >"$room/said"
 while IFS= read -r line; do say "$line"; done <"$room/said"
 

@@ -5,7 +5,7 @@ set -eu
 cd "$(dirname "$0")/../.."
 mkdir -p build
 rm -f build/verdict
-{ rt ci 2>&1 && echo 'rt ci: status 0'; } | tee build/rt-ci.log | sed -e '/^rt ci: status 0$/d' -e '/^[0-9]* passed, [0-9]* failed$/d'
+{ rt ci 2>&1 && echo 'rt ci: status 0'; } | tee build/rt-ci.log | sed -u -e '/^rt ci: status 0$/d' -e '/^[0-9]* passed, [0-9]* failed$/d'
 if [ "$(tail -n 1 build/rt-ci.log)" != 'rt ci: status 0' ]; then
     tail -n 1 build/rt-ci.log
     echo 'verdict: rt ci has not passed: build/rt-ci.log has what it said' >&2
