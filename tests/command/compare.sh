@@ -656,7 +656,7 @@ prints "$room/lines"
 ends_with() {
     cp "$1" after.results
     # shellcheck disable=SC2016 # a program
-    { echo 'kelubashi() { $command "$@"; }' && paged 'kelubashi compare ..q before' && cat "$room/lines"; } >"$room/script"
+    { echo 'kelubashi() { $command "$@"; }' && paged 'kelubashi compare -q before' && cat "$room/lines"; } >"$room/script"
     command=$command sh "$room/script" >"$room/wrote" 2>"$room/said"
     asked="the script of kelubashi-compare.1, with $1"
     tail -n 1 "$room/wrote" | grep -qF -- "$2" || fail "$asked: it ends with '$(tail -n 1 "$room/wrote")'"
