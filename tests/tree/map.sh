@@ -17,7 +17,8 @@ say() {
 # ---- Promises and wrong programs. A promise is CRATE FUNCTION, or FUNCTION of the crate whose program it is; a function may have its type or its
 # module before it: Section::width, words::append. A program shows nothing; what it promises is the step between its reading and its writing.
 
-{ sh tests/tree/promises.sh list && echo 'propagate results_of'; } >"$room/shown"
+sh tests/tree/promises.sh list >"$room/shown" || exit 1
+echo 'propagate results_of' >>"$room/shown"
 for edit in crates/*/must-fail/*.edit tests/wrong/*/*.edit; do
     crate=$(echo "$edit" | sed 's|^crates/||; s|^tests/wrong/||; s|/.*||')
     sed -n '1s/: .*//; 1s/^# //p' "$edit" | tr ',' '\n' | awk -v crate="$crate" -v edit="$edit" '{ print edit, NF == 2 ? $1 : crate, $NF }' >"$room/names"

@@ -35,7 +35,11 @@ function seen_from(module, path,    parts, many, i, found) {
 
 function trouble(text) { print "! " crate ": " text }
 
-FNR == 1 { module = module_of(FILENAME); depth = 0; type = ""; open_function = "" }
+FNR == 1 { module = module_of(FILENAME); depth = 0; type = ""; open_function = ""; ghost = 0 }
+
+# What the logic alone uses, up to its semicolon.
+/^ghost use / { ghost = 1 }
+ghost { if (/;$/) ghost = 0; next }
 
 # A contract stands in the lines behind the function's own.
 /^ / {
@@ -47,8 +51,6 @@ FNR == 1 { module = module_of(FILENAME); depth = 0; type = ""; open_function = "
 }
 
 { open_function = "" }
-
-/^ghost use / { next }
 
 /^}/ {
     if (depth == 0) { trouble(FILENAME ": a bracket closes that none opens: " $0); next }
