@@ -215,8 +215,8 @@ build/objects/%.o: %.c $(HEADERS) | machine
 	@mkdir -p $(@D)
 	@$(X86) compile $(STRICT) -Iinclude -Itests -c -o $@ $<
 
-# What make fuzz runs, for how many inputs each, of which seed, and, in the comparisons, from which number on;
-# or one INPUT that the guided program told.
+# What make fuzz runs, for how many inputs each, of which seed, and, in the comparisons, from which number on; or one INPUT that the
+# guided program told. Where none is named, the command is fuzzed too.
 FUZZ = $(if $(INPUT),,$(COMPARISONS)) $(GUIDED)
 N = 1000000
 SEED := $(shell date +%s)
@@ -227,7 +227,7 @@ fuzz: machine $(FUZZ)
 	@echo 'fuzz: $(if $(INPUT),$(INPUT),$(N) inputs of seed $(SEED) each, from number $(FIRST) on), to: $(strip $(FUZZ))'
 	@for test in $(filter-out $(GUIDED),$(FUZZ)); do $(X86) run "$$test" $(N) $(SEED) $(FIRST) || exit 1; done
 	@for test in $(filter $(GUIDED),$(FUZZ)); do $(X86) run "$$test" $(or $(INPUT),$(N) $(SEED)) || exit 1; done
-	@$(if $(INPUT)$(filter-out $(COMPARISONS) $(GUIDED),$(FUZZ)),,sh tests/command/sanitized.sh fuzz $(N) $(SEED) $(FIRST))
+	@$(if $(INPUT)$(filter command,$(origin FUZZ)),,sh tests/command/sanitized.sh fuzz $(N) $(SEED) $(FIRST))
 
 # ---- The benchmark: its table's rows, and what stands beside them.
 
