@@ -16,8 +16,9 @@
 X86 = sh tests/machine/x86.sh
 STRICT = -std=c99 -Wall -Wextra -pedantic -Werror -O2 -ffp-contract=off
 
-# rt proves so many crates, or tries so many wrong programs, at a time; with fewer processors than that, none waits for the longest of a pair.
-export RT_JOBS = 4
+# rt proves so many crates of a level, or tries so many wrong programs, at a time, and then waits for the longest: with more of them than
+# processors, none of these is idle for long.
+export RT_JOBS = 6
 
 # One step at a time, in the order written: what is cheap to find wrong comes before what takes minutes.
 .NOTPARALLEL:
