@@ -42,7 +42,10 @@ for page in man/*; do
             print text[number]
             print advice[number]
             left = 2
-        }' "$room/words" "$page" >"$room/page"
+            if (before != ".TP") { print "tables: " FILENAME ": there is no .TP before .B " number > "/dev/stderr"; bad = 1 }
+        }
+        { before = $0 }
+        END { exit bad }' "$room/words" "$page" >"$room/page" || wrong=1
     held "$page"
 done
 
