@@ -1,9 +1,10 @@
 /*
-**  Cases of documents 01 and 02 through the C face: P6 to P12, both zeros of tau, the nearer end (T-01),
-**  whole revolutions (T-04), each figure that is not finite (T-05), and runs of other lengths.
+**  Cases of documents 01 and 02 through the C face: P6 to P12, both zeros of tau, refusals 4 to 8, the nearer end
+**  (T-01), whole revolutions (T-04), each figure that is not finite (T-05), and runs of other lengths.
 **
 **  What is expected comes from the documents alone: marked cases, and formulas worked out by hand where
-**  every step is exact. Words are taken by the header's names, so these are tried too.
+**  every step is exact; but for the points of 7, which the second program counted. Words are taken by the
+**  header's names, so these are tried too.
 */
 #include "kelubashi.h"
 
@@ -45,6 +46,40 @@ static const struct sample SAMPLES[] = {
       { [KELUBASHI_REFUSAL] = 6, [KELUBASHI_POINTS] = 1 }, 0, 0 },
     { "tau +0", { 2197, 3, 4, 12, 5, 6, 7, 0 }, { AT_ONCE }, 0, -0.0 },
     { "tau -0", { 2197, 3, 4, 12, 5, 6, 7, -0.0 }, { AT_ONCE }, 0, -0.0 },
+
+    /*
+    **  With u for 2^971, the last place of the greatest double, x x, x vx and vx vx round to it less u. Then y y, y vy and vy vy are
+    **  u/2, 3u/4 and 9u/8, and of z they are 9u/8, 21u/32 and 49u/128: by rounding alone sigma0 goes beyond it, and the sums of squares do not.
+    */
+    { "4 by sigma0", { 0, 0x1.fffffffffffffp511, 0x1p485, 0x1.8p485, 0x1.fffffffffffffp511, 0x1.8p485, 0x1.cp484, 0 },
+      { [KELUBASHI_REFUSAL] = 4 }, 0, 0 },
+    { "4 by alpha", { -0x1.2p1022, 1, 0, 0, 0, 0x1.8p511, 0, 0 }, { [KELUBASHI_REFUSAL] = 4 }, 0, 0 },
+    { "4 by H", { 0, 0x1p-30, 0, 0, 0, 0, 0, 0x1p1000 }, { [KELUBASHI_REFUSAL] = 4 }, 0, 0 },
+
+    /*
+    **  alpha is zero, and the cube of psi vanishes. At 2^(k-420) the time error, times 2^420 and but for its sign, is
+    **  2^k - 2^(2k-21) - 2^20.
+    */
+    { "5", { 0x1p799, 1, 0, 0, -0x1p400, 0, 0, 0x1p-400 }, { [KELUBASHI_REFUSAL] = 5, [KELUBASHI_POINTS] = 41 }, 0, 0 },
+    { "5 before the start", { 0x1p799, 1, 0, 0, 0x1p400, 0, 0, -0x1p-400 },
+      { [KELUBASHI_REFUSAL] = 5, [KELUBASHI_POINTS] = 41 }, 0, 0 },
+
+    /*
+    **  At rest. From 2^332 to 2^341 points are short, and then mu times the cube is zero times infinity. By an infinite time error they
+    **  are short from 2^505 to 2^511, and then alpha times the square is.
+    */
+    { "6 by the time error", { 0, 1, 0, 0, 0, 0, 0, 0x1p352 }, { [KELUBASHI_REFUSAL] = 6, [KELUBASHI_POINTS] = 11 }, 0, 0 },
+    { "6 by L", { -0x1p-1074, 0x1p10, 0, 0, 0, 0, 0, 0x1p535 }, { [KELUBASHI_REFUSAL] = 6, [KELUBASHI_POINTS] = 8 }, 0, 0 },
+
+    /* Straight at the centre with no pull: by rounding r is 0, or -1; or r0 c0 and sigma0 s1 are infinite with two signs. */
+    { "7 by r at zero", { 0, 8, 0, 0, -3, 0, 0, 3 }, { [KELUBASHI_REFUSAL] = 7, [KELUBASHI_POINTS] = 26 }, 0, 0 },
+    { "7 by r below zero", { 0, 11, 0, 0, 1, 0, 0, -12 }, { [KELUBASHI_REFUSAL] = 7, [KELUBASHI_POINTS] = 26 }, 0, 0 },
+    { "7 by r a NaN", { 0, 0x1.204a92c57f38ap+471, 0, 0, 0x1.5f6655950ef78p+396, -0.0, 0, -0x1.dd88e233d9e1ap+103 },
+      { [KELUBASHI_REFUSAL] = 7, [KELUBASHI_POINTS] = 71 }, 0, 0 },
+
+    /* The cube of r0 is zero; mu over the square of r0 is infinite. */
+    { "8 by a divisor", { 0, 0x1p-400, 0, 0, 0, 0, 0, 0x1p-400 }, { [KELUBASHI_REFUSAL] = 8, [KELUBASHI_POINTS] = 21 }, 0, 0 },
+    { "8 by a figure", { 0x1p1000, 0x1p-20, 0, 0, 0, 0, 0, 0 }, { [KELUBASHI_REFUSAL] = 8 }, 0, 0 },
 
     /*
     **  At rest without a force the time error is x psi - tau. The first step vanishes; 0 is tried and is short, 2^-1022
@@ -351,7 +386,7 @@ int main(void)
     too_many();
     not_finite();
     all_alike();
-    printf("cases of states: P6 to P12, both zeros of tau, the nearer end, whole revolutions, figures that are not finite, runs of other lengths: "
-           "%u calls, none differs\n", calls);
+    printf("cases of states: P6 to P12, both zeros of tau, refusals 4 to 8, the nearer end, whole revolutions, figures that are not finite, "
+           "runs of other lengths: %u calls, none differs\n", calls);
     return EXIT_SUCCESS;
 }

@@ -24,7 +24,8 @@ use Rattle.files.specs.Writer.{recordsIn, sizeOf, writeCheck, fileOf, wr
 use Rattle.files.specs.Held.{held, ReadsAs, WrittenAs, Writable}
 use Rattle.files.proofs.WriteLaws.{fits}
 use Rattle.files.proofs.SectionLaws.{runAt}
-use Rattle.files.proofs.FileLaws.{ProperFile, accepted-proper, proper-accepted, proper-size, read-file-proper, read-bytes, file-length, file-sound}
+use Rattle.files.proofs.FileLaws.{ProperFile, accepted-proper, proper-accepted, proper-size, proper-whole, proper-words}
+use Rattle.files.proofs.FileLaws.{read-file-proper, read-bytes, file-length, file-sound}
 use Rattle.files.proofs.FileLaws.{centres-count, states-count, requests-count, counts-are, centres-held, states-held, requests-held}
 
 -- ---- Answers and checks.
@@ -89,17 +90,19 @@ back : (C S R : List ℕ) (c s r : ℕ) → ProperFile C S R c s r → Below (2 
 unfolding readingOf sectionsOf
 back C S R c s r p bc bs br =
     let file = fileOf C S R in
-    let ec : wordAt file 8 ≡ c = centres-count C S R c s r p bc bs br in
-    let es : wordAt file (statesPlace c) ≡ s = states-count C S R c s r p bc bs br in
-    let er : wordAt file (requestsPlace c s) ≡ r = requests-count C S R c s r p bc bs br in
-    let counts = counts-are C S R c s r p bc bs br in
+    let w = proper-whole C S R c s r p in
+    let are = proper-words C S R c s r p bc bs br in
+    let ec : wordAt file 8 ≡ c = centres-count C S R c s r w are in
+    let es : wordAt file (statesPlace c) ≡ s = states-count C S R c s r w are in
+    let er : wordAt file (requestsPlace c s) ≡ r = requests-count C S R c s r w are in
+    let counts = counts-are C S R c s r w are in
     record {
       accepted =
-          ap (λ (k : Check). readingBy k (sectionsOf file)) (file-sound C S R c s r p bc bs br)
+          ap (λ (k : Check). readingBy k (sectionsOf file)) (file-sound C S R c s r p are)
           ∙ ap Sections (λ i. placesOf (counts .0 i) (counts .1 i) (counts .2 i));
-      same-centres = ap (λ (k : ℕ). held file Centres (record { place = 8; count = k })) (sym ec) ∙ centres-held C S R c s r p bc bs br;
-      same-states = ap (λ (k : ℕ). held file States (record { place = statesPlace c; count = k })) (sym es) ∙ states-held C S R c s r p bc bs br;
-      same-requests = ap (λ (k : ℕ). held file Requests (record { place = requestsPlace c s; count = k })) (sym er) ∙ requests-held C S R c s r p bc bs br;
+      same-centres = ap (λ (k : ℕ). held file Centres (record { place = 8; count = k })) (sym ec) ∙ centres-held C S R c s r w are;
+      same-states = ap (λ (k : ℕ). held file States (record { place = statesPlace c; count = k })) (sym es) ∙ states-held C S R c s r w are;
+      same-requests = ap (λ (k : ℕ). held file Requests (record { place = requestsPlace c s; count = k })) (sym er) ∙ requests-held C S R c s r w are;
     }
 
 module _ (C S R room : List ℕ) (n : ℕ) (e : writingOf C S R room ≡ Length n) (bc : Below (2 ^ 64) C) (bs : Below (2 ^ 64) S) (br : Below (2 ^ 64) R) where
@@ -119,7 +122,10 @@ module _ (C S R room : List ℕ) (n : ℕ) (e : writingOf C S R room ≡ Length 
   proper = accepted-proper C S R (length room) sound
 
   long : length (fileOf C S R) ≡ n
-  long = file-length C S R c s r proper bc bs br ∙ sym (proper-size C S R c s r proper) ∙ answered-sound C S R room n e .1
+  long =
+      file-length C S R c s r (proper-whole C S R c s r proper) (proper-words C S R c s r proper bc bs br)
+      ∙ sym (proper-size C S R c s r proper)
+      ∙ answered-sound C S R room n e .1
 
   pub written-file : WrittenAs C S R room (fileOf C S R)
   written-file =

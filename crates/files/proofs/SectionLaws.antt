@@ -1,6 +1,7 @@
 -- One section, of any width and under any rule: what is sound to the writer is sound to the reader, and the other way round.
 use Prim.Native.Nat.{ℕ, _+_, _*_, _%_, _≤_}
 use native.Mathlib.Omega.{arith}
+use mathlib.Core.Bool.{Bool}
 use mathlib.Core.Path.{_≡_, refl, ap, ap₂, sym, _∙_}
 use mathlib.Core.List.{List, [], _∷_, _++_}
 use borrow.Author.Tests.{le-leb}
@@ -10,13 +11,14 @@ use Rattle.files_words.specs.Bytes.{wordAt, wordsFrom}
 use Rattle.files_words.proofs.WordLaws.{next-word, words-later}
 use Rattle.files_sections.specs.declared.sections.Section.{Section}
 use Rattle.files_sections.specs.declared.sections.Section.the-variants.{Centres, States, Requests}
+use Rattle.files_sections.specs.declared.checks.Check.{Check}
 use Rattle.files_sections.specs.declared.checks.Check.the-variants.{Sound}
-use Rattle.files_sections.specs.Checks.{Ruling, walk, countCheck, countedCheck, rulingOf}
+use Rattle.files_sections.specs.Checks.{need, _⟫_, Ruling, walk, countCheck, countedCheck, rulingOf}
 use Rattle.files_sections.specs.Sections.{widthOf, limitOf, ruleOf, sectionCheck, after}
 use Rattle.files_sections.proofs.CheckLaws.{sound-both, sound-need}
 use Rattle.files_sections.proofs.WalkLaws.{walk-front}
 use Rattle.files_sections.proofs.CountedLaws.{count-whole, count-within, words-sound, words-there}
-use Rattle.files.specs.Writer.{recordsIn, numberCheck, sectionWords}
+use Rattle.files.specs.Writer.{recordsIn, limitCheck, numberCheck, sectionWords}
 
 -- ---- Whole records.
 
@@ -41,6 +43,10 @@ pub record Proper (section : Section) (below place count : ℕ) (run : List ℕ)
   pub size : length run ≡ count * widthOf section
   pub few : count ≤ limitOf section
   pub numbers : numberCheck section below place run ≡ Sound
+
+pub proper-sound : (section : Section) {below place count : ℕ} {run : List ℕ} → Proper section below place count run →
+    (limitCheck section place count ⟫ numberCheck section below place run) ≡ Sound
+proper-sound section {place = place} p = sound-both _ _ (sound-need _ 23 place (le-leb _ _ (p .few))) (p .numbers)
 
 -- The words that a file holds after the count word at a place.
 abbrev pub runAt : List ℕ → ℕ → Section → List ℕ
@@ -83,9 +89,9 @@ module _ (file : List ℕ) (place : ℕ) (section : Section) (below : ℕ) (soun
       next-word file place (count-whole file place (limitOf section) (widthOf section) ruling sound)
       ∙ ap₂ _∷_ told-count (sym (take-append-drop n rest) ∙ ap (λ (ws : List ℕ). run ++ ws) (sym (words-later file (place + 8) n)))
 
--- What the reader finds where a sound section stands.
+-- What the reader finds where a run of whole records stands behind its count is what the writer finds in the run.
 module _ (file : List ℕ) (place : ℕ) (section : Section) (below count : ℕ) (run rest : List ℕ)
-    (whole : place + 8 ≤ length file) (here : wordsFrom file place ≡ count ∷ (run ++ rest)) (proper : Proper section below place count run)
+    (whole : place + 8 ≤ length file) (here : wordsFrom file place ≡ count ∷ (run ++ rest)) (size : length run ≡ count * widthOf section)
   where
     opened : wordAt file place ∷ wordsFrom file (place + 8) ≡ count ∷ (run ++ rest)
     opened = sym (next-word file place whole) ∙ here
@@ -96,23 +102,22 @@ module _ (file : List ℕ) (place : ℕ) (section : Section) (below count : ℕ)
     pub found-words : wordsFrom file (place + 8) ≡ run ++ rest
     found-words = cc opened
 
-    counted : countCheck file place (limitOf section) ≡ Sound
+    as-many : wordAt file place * widthOf section ≡ length run
+    as-many = ap (λ (c : ℕ). c * widthOf section) found-count ∙ sym size
+
+    counted : countCheck file place (limitOf section) ≡ limitCheck section place count
     unfolding countCheck
-    counted =
-        sound-both _ _ (sound-need _ 21 place (le-leb _ _ whole))
-        (sound-need _ 23 place (le-leb (wordAt file place) (limitOf section) (omega (arith, found-count, proper .few))))
+    counted = ap₂ (λ (t : Bool) (n : ℕ). need t 21 place ⟫ limitCheck section place n) (le-leb _ _ whole) found-count
 
-    walked : walk (rulingOf (ruleOf section below)) (place + 8) [] (wordAt file place * widthOf section) (wordsFrom file (place + 8)) ≡ Sound
+    walked : walk (rulingOf (ruleOf section below)) (place + 8) [] (wordAt file place * widthOf section) (wordsFrom file (place + 8))
+        ≡ numberCheck section below place run
     walked =
-        ap₂ (walk (rulingOf (ruleOf section below)) (place + 8) []) (ap (λ (c : ℕ). c * widthOf section) found-count ∙ sym (proper .size)) found-words
+        ap₂ (walk (rulingOf (ruleOf section below)) (place + 8) []) as-many found-words
         ∙ walk-front (rulingOf (ruleOf section below)) (place + 8) [] (length run) run rest (omega arith)
-        ∙ proper .numbers
 
-    pub found-sound : sectionCheck file place section below ≡ Sound
+    pub found-check : sectionCheck file place section below ≡ (limitCheck section place count ⟫ numberCheck section below place run)
     unfolding countedCheck
-    found-sound = sound-both (countCheck file place (limitOf section)) _ counted walked
+    found-check = ap₂ (λ (a b : Check). a ⟫ b) counted walked
 
     pub found-run : runAt file place section ≡ run
-    found-run =
-        ap₂ (λ (n : ℕ) (ws : List ℕ). take n ws) (ap (λ (c : ℕ). c * widthOf section) found-count ∙ sym (proper .size)) found-words
-        ∙ take-at run rest (length run) refl
+    found-run = ap₂ (λ (n : ℕ) (ws : List ℕ). take n ws) as-many found-words ∙ take-at run rest (length run) refl

@@ -4,7 +4,7 @@ use mathlib.Core.Path.{_≡_, refl}
 use mathlib.Core.List.{List, [], _∷_, _++_}
 use lib.ListN.{replicate}
 use Rattle.files_words.specs.Bytes.{asBytes}
-use Rattle.files_reader.specs.Cases.{one-each}
+use Rattle.files_reader.specs.Cases.{p10File, one-each}
 use Rattle.files.specs.declared.Writing.{Writing}
 use Rattle.files.specs.declared.Writing.the-variants as writing
 use Rattle.files.specs.Writer.{writingOf, roomOf}
@@ -25,7 +25,15 @@ all : Writes (398600 ∷ []) (state 0) (0 ∷ 9 ∷ []) 120 (writing.Length 120)
 unfolding writingOf roomOf asBytes
 all = (refl, refl)
 
--- 27 before 23: a run of a state and a word, though there are 17 centres; and the states before the requests.
+-- P10's file, byte by byte, in a room of a byte more.
+abbrev one : ℕ
+one = 0x3ff0000000000000
+
+p10 : Writes (0 ∷ []) (0 ∷ 0 ∷ one ∷ 0 ∷ 0 ∷ 0 ∷ 0 ∷ 0 ∷ []) (0 ∷ one ∷ []) 121 (writing.Length 120) (p10File ++ (7 ∷ []))
+unfolding writingOf roomOf
+p10 = (refl, refl)
+
+-- 27 before 23: a run of a state and a word, though there are 17 centres; and the states before the requests. Any run is whole centres, a word each.
 odd-states : Writes (replicate 17 1) (state 0 ++ (0 ∷ [])) (0 ∷ []) 8 (writing.Refused 27 1) (replicate 8 7)
 unfolding writingOf roomOf asBytes
 odd-states = (refl, refl)
@@ -39,6 +47,30 @@ too-many : Writes (replicate 17 1) (state 99) [] 8 (writing.Refused 23 8) (repli
 unfolding writingOf roomOf asBytes
 too-many = (refl, refl)
 
+-- 501 states of two centres: their count would stand after 8, 8 and 16 bytes. 1,501 requests of two centres and three states: after 8, 8, 16, 8 and 192.
+too-many-states : Writes (1 ∷ 2 ∷ []) (replicate 4008 0) [] 8 (writing.Refused 23 32) (replicate 8 7)
+unfolding writingOf roomOf
+too-many-states = (refl, refl)
+
+too-many-requests : Writes (1 ∷ 2 ∷ []) (state 0 ++ state 1 ++ state 0) (replicate 3002 0) 8 (writing.Refused 23 232) (replicate 8 7)
+unfolding writingOf roomOf
+too-many-requests = (refl, refl)
+
+-- "Under one number the first in file order": 17 centres and 501 states. But 23 before 24, wherever they stand: 1,501 requests, though a state before them
+-- is of no centre.
+both-too-many : Writes (replicate 17 1) (replicate 4008 0) [] 8 (writing.Refused 23 8) (replicate 8 7)
+unfolding writingOf roomOf
+both-too-many = (refl, refl)
+
+count-before-number : Writes [] (state 0) (replicate 3002 0) 8 (writing.Refused 23 88) (replicate 8 7)
+unfolding writingOf roomOf
+count-before-number = (refl, refl)
+
+-- 16 centres, 500 states and 1,500 requests pass 23: the first state names centre 16, after 8, 8, 128 and 8 bytes.
+at-the-limits : Writes (replicate 16 1) (16 ∷ replicate 3999 0) (replicate 3000 0) 8 (writing.Refused 24 152) (replicate 8 7)
+unfolding writingOf roomOf
+at-the-limits = (refl, refl)
+
 -- 24 before 26: the second state's centre number would stand at 8 + 16 + 8 + 64; and a request for no state.
 bad-centre : Writes (398600 ∷ []) (state 0 ++ state 1) (5 ∷ 9 ∷ []) 8 (writing.Refused 24 96) (replicate 8 7)
 unfolding writingOf roomOf asBytes
@@ -47,6 +79,11 @@ bad-centre = (refl, refl)
 bad-state : Writes (398600 ∷ []) (state 0) (0 ∷ 9 ∷ 1 ∷ 9 ∷ []) 8 (writing.Refused 24 120) (replicate 8 7)
 unfolding writingOf roomOf asBytes
 bad-state = (refl, refl)
+
+-- Of two centres and one state a request may not name state 1: the word would stand after 8, 8, 16, 8, 64 and 8 bytes.
+second-centre-only : Writes (1 ∷ 2 ∷ []) (state 1) (1 ∷ 9 ∷ []) 8 (writing.Refused 24 112) (replicate 8 7)
+unfolding writingOf roomOf
+second-centre-only = (refl, refl)
 
 -- 26: a byte of room short.
 no-room : Writes (398600 ∷ []) (state 0) (0 ∷ 9 ∷ []) 119 (writing.Refused 26 120) (replicate 119 7)

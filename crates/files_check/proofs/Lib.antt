@@ -1,5 +1,6 @@
--- The laws of a file of rows, and what the public function leaves open.
+-- The laws of a file of rows, those of our own rows, and what the public function leaves open.
 pub mod Sound
 pub mod Verdicts
 pub mod RowsLaws
+pub mod OurRows
 pub mod OneAnswers

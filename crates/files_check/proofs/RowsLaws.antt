@@ -132,9 +132,10 @@ pub judges-rows : JudgesRows
 unfolding judgedOf verdictsAfter
 judges-rows rows are few run =
     let file = fileOf rows in
-    let s = sound rows are few in
-    let c = count-here rows are few in
-    let all : verdictsOf file (length rows) ≡ map verdictOn rows = from-first file (length rows) ∙ each file 0 rows are (rest-here rows are few) in
+    let within : length rows ≤ mostRows = omega (arith, few) in
+    let s = sound rows are within in
+    let c = count-here rows are within in
+    let all : verdictsOf file (length rows) ≡ map verdictOn rows = from-first file (length rows) ∙ each file 0 rows are (rest-here rows are within) in
     record {
       answer = λ i. judgedBy (s i) (c i) (length run);
       verdicts =

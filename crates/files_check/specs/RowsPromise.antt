@@ -4,7 +4,7 @@ use mathlib.Core.Logic.{_⊎_}
 use mathlib.Core.List.{List, _∷_, _++_, map}
 use Prim.Native.Nat.{ℕ, _+_, _*_, _≤_, _^_}
 use lib.Dec.{leb}
-use lib.ListN.{length, drop}
+use lib.ListN.{length, drop, replicate}
 use Rattle.bits.specs.Choice.{pick}
 use Rattle.search.specs.Search.{Proposing}
 use Rattle.states_revolutions.specs.Revolutions.{intervalOf}
@@ -65,3 +65,26 @@ ourRow pr given = let a = propagateBy intervalOf pr given in record { given = gi
 
 abbrev pub OurRowsPass : Type 0
 OurRowsPass = (pr : Proposing) (given : List ℕ) → propagateBy intervalOf pr given .refusal ≡ 0 → verdictOn (ourRow pr given) ≡ 1
+
+-- Such a row is one of a file: 18 words, each below 2 ^ 64, where its input is eight words.
+pub record Answered (pr : Proposing) (given : List ℕ) : Type 0 where
+  pub eight : length given ≡ 8
+  pub are-words : Below (2 ^ 64) given
+  pub not-refused : propagateBy intervalOf pr given .refusal ≡ 0
+
+abbrev pub OurRowIs : Type 0
+OurRowIs = (pr : Proposing) (given : List ℕ) → Answered pr given → IsRow (ourRow pr given)
+
+-- So a file of up to 400 of our own rows, each by any formula, is answered with their number, and every verdict is 1.
+pub record Ours (r : Row) : Type 0 where
+  pub by : Proposing
+  pub input : List ℕ
+  pub answered : Answered by input
+  pub same : r ≡ ourRow by input
+
+pub record AllPass (rows : List Row) (run : List ℕ) : Type 0 where
+  pub answer : judgedOf (fileOf rows) (length run) ≡ record { number = 0; «place_or_rows» = length rows }
+  pub verdicts : verdictsAfter (fileOf rows) run ≡ replicate (length rows) 1 ++ drop (length rows) run
+
+abbrev pub OurFilesPass : Type 0
+OurFilesPass = (rows : List Row) → All Ours rows → length rows ≤ 400 → (run : List ℕ) → length rows ≤ length run → AllPass rows run

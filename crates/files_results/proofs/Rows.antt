@@ -20,7 +20,7 @@ use Rattle.files_words.proofs.PutLaws.{put-next, put-outside, length-put}
 use Rattle.files_reader.specs.declared.Places.{Places}
 use Rattle.files_results.specs.Requests.{requestWords}
 use Rattle.files_sections.specs.ResultLayout.{resultEdition, rowWords, rowPlace}
-use Rattle.files_results.specs.Results.{rowOf, refusedRow, RowsName, rowsOf, sectionsWords, outcomeIn, withRow, withRows}
+use Rattle.files_results.specs.Results.{rowOf, refusedRow, RowsName, rowsOf, sectionsWords, shortRoom, outcomeIn, withRow, withRows}
 
 -- ---- Rows.
 pub row-length : (words : List ℕ) → length (rowOf words) ≡ rowWords
@@ -93,11 +93,11 @@ module _ (file : List ℕ) (places : Places) where
 
 -- ---- What is answered.
 module _ (result room : List ℕ) where
-  answered : {n : ℕ} (b : Bool) → length result ≡ n → leb (length result) (length room) ≡ b → record { number = pick b 0 26; size = n } ≡ outcomeIn result room
+  answered : {n : ℕ} (b : Bool) → length result ≡ n → leb (length result) (length room) ≡ b → record { number = pick b 0 shortRoom; size = n } ≡ outcomeIn result room
   unfolding outcomeIn
-  answered b e t = λ i. record { number = pick (sym t i) 0 26; size = sym e i }
+  answered b e t = λ i. record { number = pick (sym t i) 0 shortRoom; size = sym e i }
 
-  pub too-short : {n : ℕ} → length result ≡ n → length room < n → (record { number = 26; size = n } ≡ outcomeIn result room) × (room ≡ put room 0 result)
+  pub too-short : {n : ℕ} → length result ≡ n → length room < n → (record { number = shortRoom; size = n } ≡ outcomeIn result room) × (room ≡ put room 0 result)
   too-short {n} e h =
       let l : length room < length result = omega arith in
       (answered false e (lt-leb (length result) (length room) l), sym (put-outside room result 0 (omega arith)))

@@ -32,11 +32,13 @@ use Rattle.states.specs.Call.{
   answerWords,
 }
 use Rattle.files_words.specs.Bytes.{asBytes}
+use Rattle.files_reader.specs.Cases.{p10File}
 use Rattle.files_reader.specs.Reader.{readingOf}
 use Rattle.files_results.specs.Requests.{requestWords}
 use Rattle.files_results.specs.Results.{refusedRow, rowOf, rowsOf, resultFile}
 
--- What a case asks for: the root of a word; the coefficients at L = +0, by α and ψ; a call of eight words; the result file of an element file. All are words.
+-- What a case asks for: the root of a word; the coefficients at L = +0, by α and ψ; a call of eight words, all as words; the result file of an
+-- element file, by its bytes.
 pub data Asked : Type 0 where
   root : ℕ → Asked
   coefficients : (alpha psi : ℕ) → Asked
@@ -52,7 +54,7 @@ abbrev pub given : Asked → List ℕ
 given (root word) = rootRefusalOf word ∷ rootWordOf word ∷ []
 given (coefficients alpha psi) = firstThree (coefficientsOf (ofBits binary64 alpha) (record { 0 = ofBits binary64 psi }))
 given (call words) = answerWords (propagateOf words)
-given (file words) = resultFile (asBytes words)
+given (file bytes) = resultFile bytes
 
 -- A case: what is asked, and what it must give.
 pub record Case : Type 0 where
@@ -136,6 +138,24 @@ badRows =
     ++ (refusedRow 36 ++ (refusedRow 37 ++ (refusedRow 38 ++ (refusedRow 38
     ++ (0 ∷ 21 ∷ one ∷ slow ∷ slower ∷ 0 ∷ slow ∷ slower ∷ minusZero ∷ minusZero ∷ minusZero ∷ []))))))))))
 
+-- P10's result file, byte by byte: 1, 1, 0, 21, the word of 1.0, five zeros, three times minus zero; "Little-endian", the lowest byte first.
+abbrev pub p10Result : List ℕ
+p10Result =
+    1 ∷ 0 ∷ 0 ∷ 0 ∷ 0 ∷ 0 ∷ 0 ∷ 0
+    ∷ 1 ∷ 0 ∷ 0 ∷ 0 ∷ 0 ∷ 0 ∷ 0 ∷ 0
+    ∷ 0 ∷ 0 ∷ 0 ∷ 0 ∷ 0 ∷ 0 ∷ 0 ∷ 0
+    ∷ 21 ∷ 0 ∷ 0 ∷ 0 ∷ 0 ∷ 0 ∷ 0 ∷ 0
+    ∷ 0 ∷ 0 ∷ 0 ∷ 0 ∷ 0 ∷ 0 ∷ 0xf0 ∷ 0x3f
+    ∷ 0 ∷ 0 ∷ 0 ∷ 0 ∷ 0 ∷ 0 ∷ 0 ∷ 0
+    ∷ 0 ∷ 0 ∷ 0 ∷ 0 ∷ 0 ∷ 0 ∷ 0 ∷ 0
+    ∷ 0 ∷ 0 ∷ 0 ∷ 0 ∷ 0 ∷ 0 ∷ 0 ∷ 0
+    ∷ 0 ∷ 0 ∷ 0 ∷ 0 ∷ 0 ∷ 0 ∷ 0 ∷ 0
+    ∷ 0 ∷ 0 ∷ 0 ∷ 0 ∷ 0 ∷ 0 ∷ 0 ∷ 0
+    ∷ 0 ∷ 0 ∷ 0 ∷ 0 ∷ 0 ∷ 0 ∷ 0 ∷ 0x80
+    ∷ 0 ∷ 0 ∷ 0 ∷ 0 ∷ 0 ∷ 0 ∷ 0 ∷ 0x80
+    ∷ 0 ∷ 0 ∷ 0 ∷ 0 ∷ 0 ∷ 0 ∷ 0 ∷ 0x80
+    ∷ []
+
 -- ---- The table.
 abbrev pub table : List Case
 table =
@@ -161,12 +181,9 @@ table =
     ∷ record { asked = call (around 0x4032d97c7f3321d2); must = comesRound }
     ∷ record { asked = call (around 0xc032d97c7f3321d2); must = comesRound }
     -- "P10 as one request writes, whole: 1, 1, 0, 21, the word of 1.0 .., 0, 0, 0, 0, 0, then three times 8000000000000000 hex (minus zero)."
-    ∷ record {
-      asked = file (1 ∷ 1 ∷ 0 ∷ 1 ∷ 0 ∷ 0 ∷ one ∷ 0 ∷ 0 ∷ 0 ∷ 0 ∷ 0 ∷ 1 ∷ 0 ∷ one ∷ []);
-      must = asBytes (1 ∷ 1 ∷ 0 ∷ 21 ∷ one ∷ 0 ∷ 0 ∷ 0 ∷ 0 ∷ 0 ∷ minusZero ∷ minusZero ∷ minusZero ∷ []);
-    }
+    ∷ record { asked = file p10File; must = p10Result }
     -- T-05: 31 to 38 of a result row, by the word of the element file that is not finite.
-    ∷ record { asked = file badWords; must = asBytes badRows }
+    ∷ record { asked = file (asBytes badWords); must = asBytes badRows }
     -- "A refused file gives three words: 1, 0, its number." Here an empty one.
     ∷ record { asked = file []; must = asBytes (1 ∷ 0 ∷ 21 ∷ []) }
     ∷ []

@@ -70,8 +70,11 @@ unfoldable pub resultFile : List ℕ → List ℕ
 resultFile file = asBytes (resultBy file (readingOf file))
 
 -- ---- What is answered: 0 and the file's size in bytes, or 26 and the size needed.
+abbrev pub shortRoom : ℕ
+shortRoom = 26
+
 unfoldable pub outcomeIn : (result room : List ℕ) → Outcome
-outcomeIn result room = record { number = pick (leb (length result) (length room)) 0 26; size = length result }
+outcomeIn result room = record { number = pick (leb (length result) (length room)) 0 shortRoom; size = length result }
 
 abbrev pub outcomeOf : List ℕ → (room : List ℕ) → Outcome
 outcomeOf file room = outcomeIn (resultFile file) room

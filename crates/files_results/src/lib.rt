@@ -23,6 +23,8 @@ pub use requests::request_words;
 pub const REFUSED_WORDS: usize = 3;
 // The bytes of the longest result file, that of the most requests.
 pub const LONGEST_RESULT: usize = 8 * (HEAD_WORDS + ROW_WORDS * MOST_REQUESTS as usize);
+// The number of a room that is too short.
+const SHORT_ROOM: u64 = 26;
 
 // What was written: 0 and the size of the result file in bytes, or 26 and the size that is needed.
 pub struct Outcome {
@@ -70,7 +72,10 @@ fn write_accepted(file: &[u8], places: Places, room: &mut [u8]) -> Outcome
     let n = places.requests.count;
     let size = row_place(n);
     if room.len() < size {
-        return Outcome { number: 26, size };
+        return Outcome {
+            number: SHORT_ROOM,
+            size,
+        };
     }
     put_words(room, 0, &[RESULT_EDITION, n as u64]);
     put_rows(file, places, room);
@@ -84,7 +89,10 @@ fn write_refused(number: u64, room: &mut [u8]) -> Outcome
 {
     let size = 8 * REFUSED_WORDS;
     if room.len() < size {
-        return Outcome { number: 26, size };
+        return Outcome {
+            number: SHORT_ROOM,
+            size,
+        };
     }
     put_words(room, 0, &[RESULT_EDITION, 0, number]);
     Outcome { number: 0, size }

@@ -6,8 +6,11 @@ pub mod WordLaws
 pub mod OrderLaws
 pub mod StateLaws
 pub mod AnewLaws
+pub mod AskedLaws
 pub mod RightLaws
 pub mod OneListLaws
+pub mod SummaryLaws
 pub mod ExtremeLaws
 pub mod BackLaws
 pub mod OneAnswers
+pub mod PromiseLaws

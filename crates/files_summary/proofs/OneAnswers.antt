@@ -25,7 +25,7 @@ pub withdraw-one : OneAnswer 2 withdraw-kinds.ps withdraw-kinds.r withdraw-reads
 withdraw-one κs a x y v w p q = (p .0 ∙ sym (q .0), λ i. ((p .1 .1 ∙ sym (q .1 .1)) i, (tt, ((p .1 .0 ∙ sym (q .1 .0)) i, (tt, (tt, tt))))))
 
 -- Three facts beside one another, and what follows from them.
-three : {M : Type 1} (𝓤 : URA M) (a b c φ : Type 0) → (a → b → c → φ) → ent 𝓤 (sep 𝓤 (fact 𝓤 a) (sep 𝓤 (fact 𝓤 b) (fact 𝓤 c))) (fact 𝓤 φ)
+pub three : {M : Type 1} (𝓤 : URA M) (a b c φ : Type 0) → (a → b → c → φ) → ent 𝓤 (sep 𝓤 (fact 𝓤 a) (sep 𝓤 (fact 𝓤 b) (fact 𝓤 c))) (fact 𝓤 φ)
 three 𝓤 a b c φ k =
     let all = sep 𝓤 (fact 𝓤 a) (sep 𝓤 (fact 𝓤 b) (fact 𝓤 c)) in
     let rest = snd∗ 𝓤 (fact 𝓤 a) (sep 𝓤 (fact 𝓤 b) (fact 𝓤 c)) in

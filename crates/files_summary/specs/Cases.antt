@@ -3,10 +3,13 @@ use Prim.Native.Nat.{ℕ}
 use mathlib.Core.Path.{_≡_, refl}
 use mathlib.Core.Bool.{false}
 use mathlib.Core.List.{List, [], _∷_, _++_}
+use lib.ListN.{replicate}
 use lib.Ieee.{isNan, ofBits}
 use Rattle.bits.specs.Words.{minusZero}
 use Rattle.files_summary.specs.Entries.{inUse, entryBy, entryWords}
-use Rattle.files_summary.specs.Changes.{oneEach, appendRefusal, appendedTo, withdrawnFrom, entriesOf, asWords}
+use Rattle.files_summary.specs.Changes.{oneEach, appendRefusal, appendedTo, withdrawnFrom, entriesOf, asWords, summaryList}
+use Rattle.files_summary.specs.Changes.{entryWidth, putEntry, appendOf, appendRun, withdrawOf, withdrawRun}
+use Rattle.files_summary.specs.Kept.{append, withdraw, Kept, changeBy, changesBy}
 
 -- A state of a centre at an epoch; its other six words tell it from others.
 abbrev pub state : (centre epoch mark : ℕ) → List ℕ
@@ -82,6 +85,32 @@ two-centres = refl
 one-listed : asWords (entriesOf (inUse run 3) 1) ≡ 1 ∷ 0 ∷ minusOne ∷ minusOne ∷ []
 unfolding asWords entriesOf isNan ofBits inUse
 one-listed = refl
+
+-- ---- A whole summary: three centres beside seven states in use. Centre 0 has a NaN and -1, centre 1 no state, centre 2 the numbers 1, minus zero and
+-- infinity and a NaN; the state of centre 5 is in no entry. The records that are not in use hold a state of centre 1, and zeros.
+abbrev pub station : List ℕ
+station =
+    state 2 one 11 ++ state 0 quietNan 22 ++ state 2 minusZero 33 ++ state 5 minusInfinite 44 ++ state 2 infinite 55 ++ state 0 minusOne 66
+    ++ state 2 minusNan 77 ++ state 1 minusInfinite 88 ++ replicate 3936 0
+
+whole-summary : summaryList station 7 3 (replicate 12 9)
+    ≡ (1 ∷ 1 ∷ minusOne ∷ minusOne ∷ []) ++ (0 ∷ 0 ∷ 0 ∷ 0 ∷ []) ++ (3 ∷ 1 ∷ 0 ∷ infinite ∷ [])
+unfolding summaryList isNan ofBits
+whole-summary = refl
+
+-- Refused by 27 or 41, the list stays as it was.
+summary-refused : (summaryList station 501 3 (replicate 12 9) ≡ replicate 12 9) × (summaryList station 7 3 (replicate 11 9) ≡ replicate 11 9)
+unfolding summaryList
+summary-refused = (refl, refl)
+
+-- ---- "After a change that centre's entry is the one worked out afresh and no other is touched": a state of centre 1 is appended, and the fifth, of
+-- centre 2, withdrawn, beside a list whose words are all 9. So are those of centre 0's entry afterwards.
+abbrev pub kept : Kept ℕ
+kept = changesBy entryWidth putEntry 3 (append (state 1 subnormal 99) ∷ withdraw 4 ∷ []) (record { run = station; count = 7; list = replicate 12 9 })
+
+two-changes : (kept .count ≡ 7) × (kept .list ≡ (9 ∷ 9 ∷ 9 ∷ 9 ∷ []) ++ (1 ∷ 0 ∷ subnormal ∷ subnormal ∷ []) ++ (2 ∷ 1 ∷ 0 ∷ one ∷ []))
+unfolding changesBy changeBy appendOf appendRun withdrawOf withdrawRun isNan ofBits
+two-changes = (refl, refl)
 
 -- ---- "A withdrawn state's followers move down one, and the last record freed keeps its words".
 first-withdrawn : withdrawnFrom run 3 0 ≡ state 0 minusOne 22 ++ state 1 minusZero 33 ++ state 1 minusZero 33

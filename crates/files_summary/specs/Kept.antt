@@ -13,10 +13,12 @@ use Rattle.bits.specs.Line.{isNanWord}
 use Rattle.files_sections.specs.declared.sections.Section.the-variants.{States}
 use Rattle.files_sections.specs.Sections.{widthOf}
 use Rattle.files_summary.specs.declared.entries.Summary.{Summary}
+use Rattle.files_summary.specs.declared.changes.Change.{Change}
 use Rattle.files_summary.specs.Entries.{inUse, centreOf, epochOf, entryOf, noEntry, entryWords}
 use Rattle.files_summary.specs.Changes.{
   oneEach,
   summaryRefusal,
+  summaryList,
   appendRefusal,
   withdrawRefusal,
   stateAt,
@@ -74,6 +76,12 @@ runAsked (withdraw which) k = withdrawnFrom (k .run) (k .count) which
 abbrev pub countAsked : {A : Type 0} → Asked → Kept A → ℕ
 countAsked (append state) k = k .count + 1
 countAsked (withdraw which) k = k .count - 1
+
+-- What a call that changes something promises of its answer and of what it leaves: the number is that of its refusal, or 0, and what is kept is `changeBy`.
+pub record Answered {A : Type 0} (width : ℕ) (store : List A → ℕ → Summary → List A) (centres : ℕ) (asked : Asked) (before : Kept A)
+    (change : Change) (run : List ℕ) (list : List A) : Type 0 where
+  pub number : change .number ≡ refusalAsked width centres asked before
+  pub kept : record { run = run; count = change .count; list = list } ≡ changeBy width store centres asked before
 
 -- ---- The refusals by document 02's numbers and in its order; a later one is given where none before it is.
 abbrev pub Roomy : (words count : ℕ) → Type 0
@@ -139,6 +147,17 @@ StatesMove =
     ((state : List ℕ) → length state ≡ widthOf States → (count + 1) * widthOf States ≤ length run → OneMore run count state)
     × ((which : ℕ) → which < count → count * widthOf States ≤ length run → OneFewer run count which)
 
+-- Where a change is made, the states in use are those before and one more, the last of them; or those without the one that is withdrawn.
+abbrev pub statesAsked : Asked → List (List ℕ) → List (List ℕ)
+statesAsked (append state) states = states ++ (state ∷ [])
+statesAsked (withdraw which) states = without states which
+
+abbrev pub ChangesAsAsked : Type 1
+ChangesAsAsked =
+    (A : Type 0) (width : ℕ) (store : List A → ℕ → Summary → List A) (centres : ℕ) (asked : Asked) (k : Kept A) → refusalAsked width centres asked k ≡ 0 →
+    let after = changeBy width store centres asked k in
+    inUse (after .run) (after .count) ≡ statesAsked asked (inUse (k .run) (k .count))
+
 -- ---- Whatever the list holds, right or wrong: a change that is made leaves the entry of its centre as worked out from the states as they then stand,
 -- and every other entry, or word, as it was.
 pub record Anew (asked : Asked) (k after : Kept Summary) : Type 0 where
@@ -165,6 +184,18 @@ Right centres k = k .list ≡ entriesOf (inUse (k .run) (k .count)) centres
 
 abbrev pub RightWords : (centres : ℕ) → Kept ℕ → Type 0
 RightWords centres k = k .list ≡ asWords (entriesOf (inUse (k .run) (k .count)) centres)
+
+-- `summary` works the whole list out afresh: where it answers 0 the list is right, whatever it held before; under a refusal it stays as it was.
+pub record Afresh (centres number : ℕ) (before after : Kept ℕ) : Type 0 where
+  pub told : number ≡ summaryRefusal (before .run) (before .count) centres (before .list)
+  pub right : number ≡ 0 → RightWords centres after
+  pub stays : (number ≡ 0 → ⊥) → after ≡ before
+
+abbrev pub summarised : (centres : ℕ) → Kept ℕ → Kept ℕ
+summarised centres k = record { run = k .run; count = k .count; list = summaryList (k .run) (k .count) centres (k .list) }
+
+abbrev pub SummaryRight : Type 0
+SummaryRight = (centres : ℕ) (k : Kept ℕ) → Afresh centres (summaryRefusal (k .run) (k .count) centres (k .list)) k (summarised centres k)
 
 -- "a right list stays right", whatever is asked, accepted or refused.
 abbrev pub RightStays : Type 0

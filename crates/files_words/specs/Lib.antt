@@ -1,2 +1,3 @@
 -- Little-endian words in runs of bytes.
 pub mod Bytes
+pub mod Cases

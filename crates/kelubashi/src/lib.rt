@@ -204,9 +204,9 @@ pub extern "C" fn kelubashi1_append(
     if answer.len() != 2 {
         return 60;
     }
-    let change = files_summary::words::append(list, state, states, count, centres);
-    bits::copy_words(&[change.number, change.count], answer);
-    change.number
+    let appended = files_summary::words::append(list, state, states, count, centres);
+    bits::copy_words(&[appended.number, appended.count], answer);
+    appended.number
 }
 
 // A state withdrawn from those in use, and its centre's entry brought up to date, with an answer run of two words.
@@ -231,9 +231,9 @@ pub extern "C" fn kelubashi1_withdraw(
     if answer.len() != 2 {
         return 60;
     }
-    let change = files_summary::words::withdraw(list, which, states, count, centres);
-    bits::copy_words(&[change.number, change.count], answer);
-    change.number
+    let withdrawn = files_summary::words::withdraw(list, which, states, count, centres);
+    bits::copy_words(&[withdrawn.number, withdrawn.count], answer);
+    withdrawn.number
 }
 
 // A verdict for each row of another station's file, to a lent run, and an answer run of two words.

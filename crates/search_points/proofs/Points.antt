@@ -91,7 +91,7 @@ under (inf true) h = (refl, refl)
 under (inf false) h = (refl, refl)
 under (fin s m x) h = (ap not (fin-same s (m * up x * down x)), fin-below (m * up x * 1) (0 * 1 * down x) (omega arith) s h)
 
-zero-same : (x : Float) → eq x n0 ≡ true → ne x x ≡ false
+pub zero-same : (x : Float) → eq x n0 ≡ true → ne x x ≡ false
 unfolding ofBits eq ne
 zero-same nan h = absurd (true≢false (sym h))
 zero-same (inf s) h = absurd (true≢false (sym h))

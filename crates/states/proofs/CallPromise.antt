@@ -3,9 +3,9 @@ use mathlib.Core.Path.{_≡_, refl, _∙_, ap}
 use mathlib.Core.Logic.{_⊎_, inl, inr, ⊎-elim}
 use mathlib.Core.Bool.{Bool, true, false, not}
 use mathlib.Core.List.{List}
-use Prim.Native.Nat.{ℕ}
+use Prim.Native.Nat.{ℕ, _<_}
 use native.Mathlib.Omega.{arith}
-use borrow.Author.Tests.{eq-eqb}
+use borrow.Author.Tests.{eq-eqb, ne-eqb}
 use lib.Dec.{eqb}
 use lib.ListN.{length}
 use lib.Ieee.{Float, nan, inf, fin, mul, div, ofBits}
@@ -46,7 +46,7 @@ use Rattle.states_start.specs.declared.figures.Begun.{Begun}
 use Rattle.states_start.specs.declared.figures.Start.{Start}
 use Rattle.states.specs.Call.{Finder, searching, Parting, wholly, noResults, refused, answered, reachedFound, reachedOverBy, reachedFromBy, reachedBegunBy, reachedOrbitBy, reachedReadBy, reachedWordsBy, endedAnswer, answerFrom, propagateBy}
 use Rattle.states.specs.WithPartials.{withPartials, endedWith, lentEnded, partialsFrom, lentFrom, partialsBy, lentBy}
-use Rattle.states.specs.CallPromise.{ZerosOrAnswer, UnchangedOrAnswer, Searches, intervalIn, searchedIn, Reports, FindsAnomaly, CountsPoints, SearchesFinite, AtOnce, NothingSearched, Else01Stands}
+use Rattle.states.specs.CallPromise.{ZerosOrAnswer, UnchangedOrAnswer, Searches, intervalIn, searchedIn, Ending, EndsWith, EndsWithPartials, Reports, FindsAnomaly, CountsPoints, SearchesFinite, AtOnce, NothingSearched, Else01Stands}
 use Rattle.states.specs.declared.figures.Reached.{Reached}
 use Rattle.states.specs.declared.figures.Reached.the-variants as reached
 use Rattle.states.specs.declared.figures.Answer.{Answer}
@@ -66,7 +66,7 @@ answered-clean n r = inl refl
 ended-clean : (n : ℕ) (e : Ended) → Clean (endedAnswer n e)
 unfolding endedAnswer
 ended-clean n (ended.Results r) = answered-clean n r
-ended-clean n (ended.Refused k) = refused-clean k n
+ended-clean n (ended.Refused k) = refused-clean _ n
 
 by-clean : (x : Reached) → Clean (answerFrom x)
 by-clean (reached.End arc n) = ended-clean n (endedOf arc)
@@ -89,10 +89,13 @@ unfolding answered
 pick-kept true k n r run words = inl refl
 pick-kept false k n r run words = refused-kept k n run
 
-ended-kept : (arc : Arc) (n : ℕ) (e : Ended) (run : List ℕ) → Kept (endedWith arc n e run) run (lentEnded arc e run)
+with-kept : (arc : Arc) (n : ℕ) (r : Results) (run : List ℕ) → Kept (withPartials arc n r run) run (lentAfter arc run)
 unfolding withPartials lentAfter
-ended-kept arc n (ended.Results r) run = pick-kept (eqb (partialsRefusal arc run) 0) (partialsRefusal arc run) n r run (wordsOf (entriesOf arc))
-ended-kept arc n (ended.Refused k) run = refused-kept k n run
+with-kept arc n r run = pick-kept (eqb (partialsRefusal arc run) 0) (partialsRefusal arc run) n r run (wordsOf (entriesOf arc))
+
+ended-kept : (arc : Arc) (n : ℕ) (e : Ended) (run : List ℕ) → Kept (endedWith arc n e run) run (lentEnded arc e run)
+ended-kept arc n (ended.Results r) run = with-kept _ n r run
+ended-kept arc n (ended.Refused k) run = refused-kept _ n run
 
 by-kept : (x : Reached) (run : List ℕ) → Kept (partialsFrom x run) run (lentFrom x run)
 by-kept (reached.End arc n) run = ended-kept arc n (endedOf arc) run
@@ -135,21 +138,64 @@ SevenOrEight e r = (e ≡ ended.Results r) ⊎ ((e ≡ ended.Refused 7) ⊎ (e �
 abbrev pub Settled : Answer → ℕ → Results → Type 0
 Settled a n r = (a ≡ answered n r) ⊎ ((a ≡ refused 7 n) ⊎ (a ≡ refused 8 n))
 
+-- What an end leads to, without partials
+module _ (n : ℕ) (e : Ended) where
+  refuses : (k : ℕ) → e ≡ ended.Refused k → endedAnswer n e ≡ refused k n
+  unfolding endedAnswer
+  refuses k p = ap (endedAnswer n) p
+
+  answers : (r : Results) → e ≡ ended.Results r → endedAnswer n e ≡ answered n r
+  unfolding endedAnswer
+  answers r p = ap (endedAnswer n) p
+
+-- and with them: by the partials of this arc.
+module _ (arc : Arc) (n : ℕ) (run : List ℕ) where
+  by-partials : (r : Results) (k : ℕ) → partialsRefusal arc run ≡ k → 0 < k → (withPartials arc n r run ≡ refused k n) × (lentAfter arc run ≡ run)
+  unfolding withPartials lentAfter
+  by-partials r k z h = let t : eqb k 0 ≡ false = ne-eqb k 0 (λ q. omega arith) in (rw (z, t), rw (z, t))
+
+  with-them : (r : Results) → partialsRefusal arc run ≡ 0 → (withPartials arc n r run ≡ answered n r) × (lentAfter arc run ≡ wordsOf (entriesOf arc))
+  unfolding withPartials lentAfter
+  with-them r z = (rw z, rw z)
+
+module _ (arc : Arc) (n : ℕ) (e : Ended) (run : List ℕ) where
+  -- Both, the answer and the lent run.
+  abbrev Leads : Answer → List ℕ → Type 0
+  Leads a after = (endedWith arc n e run ≡ a) × (lentEnded arc e run ≡ after)
+
+  at-end : {x : Ended} → e ≡ x → Leads (endedWith arc n x run) (lentEnded arc x run)
+  at-end p = (ap (λ (y : Ended). endedWith arc n y run) p, ap (λ (y : Ended). lentEnded arc y run) p)
+
+  refuses-with : (k : ℕ) → e ≡ ended.Refused k → Leads (refused k n) run
+  refuses-with k p = at-end p
+
+  partials-refuse : (r : Results) (k : ℕ) → e ≡ ended.Results r → partialsRefusal arc run ≡ k → 0 < k → Leads (refused k n) run
+  partials-refuse r k p z h = let w = by-partials arc n run r k z h in (at-end p .0 ∙ w .0, at-end p .1 ∙ w .1)
+
+  answers-with : (r : Results) → e ≡ ended.Results r → partialsRefusal arc run ≡ 0 → Leads (answered n r) (wordsOf (entriesOf arc))
+  answers-with r p z = let w = with-them arc n run r z in (at-end p .0 ∙ w .0, at-end p .1 ∙ w .1)
+
+ends-with : (arc : Arc) (n : ℕ) → EndsWith arc n (endedAnswer n (endedOf arc))
+ends-with arc n = record { refuses = refuses n (endedOf arc); answers = answers n (endedOf arc) }
+
+ends-with-partials : (arc : Arc) (n : ℕ) (run : List ℕ) → EndsWithPartials run (lentEnded arc (endedOf arc) run) arc n (endedWith arc n (endedOf arc) run)
+ends-with-partials arc n run =
+    record {
+      refuses = refuses-with arc n (endedOf arc) run;
+      refuses-partials = partials-refuse arc n (endedOf arc) run;
+      answers = answers-with arc n (endedOf arc) run;
+    }
+
 pub settled : (n : ℕ) (e : Ended) (r : Results) → SevenOrEight e r → Settled (endedAnswer n e) n r
-unfolding endedAnswer
-settled n e r (inl p) = inl (ap (endedAnswer n) p)
-settled n e r (inr (inl p)) = inr (inl (ap (endedAnswer n) p))
-settled n e r (inr (inr p)) = inr (inr (ap (endedAnswer n) p))
+settled n e r (inl p) = inl (answers n e r p)
+settled n e r (inr (inl p)) = inr (inl (refuses n e 7 p))
+settled n e r (inr (inr p)) = inr (inr (refuses n e 8 p))
 
 pub settled-with : (arc : Arc) (n : ℕ) (e : Ended) (r : Results) (run : List ℕ) → length run ≡ 36 → SevenOrEight e r → Settled (endedWith arc n e run) n r
-unfolding withPartials
 settled-with arc n e r run h (inl p) =
-    ⊎-elim
-    (λ z. inl (ap (λ (x : Ended). endedWith arc n x run) p ∙ rw (eq-eqb (partialsRefusal arc run) 0 z)))
-    (λ z. inr (inr (ap (λ (x : Ended). endedWith arc n x run) p ∙ ap (λ (k : ℕ). pick (not (eqb k 0)) (refused k n) (answered n r)) z)))
-    (zero-or-eight arc run h)
-settled-with arc n e r run h (inr (inl p)) = inr (inl (ap (λ (x : Ended). endedWith arc n x run) p))
-settled-with arc n e r run h (inr (inr p)) = inr (inr (ap (λ (x : Ended). endedWith arc n x run) p))
+    ⊎-elim (λ z. inl (answers-with arc n e run r p z .0)) (λ z. inr (inr (partials-refuse arc n e run r 8 p z (omega arith) .0))) (zero-or-eight arc run h)
+settled-with arc n e r run h (inr (inl p)) = inr (inl (refuses-with arc n e run 7 p .0))
+settled-with arc n e r run h (inr (inr p)) = inr (inr (refuses-with arc n e run 8 p .0))
 
 pub psi-of : (s : Start) (d : Interval) (psi : Anomaly) → resultsOf (arcOf s d psi) .psi ≡ psi
 unfolding resultsOf arcOf
@@ -169,27 +215,34 @@ settled-psi a n r (inr (inl e)) z = absurd (omega (arith, ap (λ (x : Answer). x
 settled-psi a n r (inr (inr e)) z = absurd (omega (arith, ap (λ (x : Answer). x .refusal) e))
 
 module _ (pr : Proposing) (s : Start) (d : Interval) where
-  reports : {f : Finding} {a : Answer} (g : Demand3 (pr (s .initial) (d .searched)) (s .initial) (d .searched) (firstStepOf (s .initial) (d .searched)) f) →
-      Settled a (g .points) (resultsOf (arcOf s d (anomalyAt (d .searched) (g .place)))) → Reports pr s d a
-  reports {a = a} g so =
+  reports : {f : Finding} {a : Answer} (Ends : Ending) (g : Demand3 (pr (s .initial) (d .searched)) (s .initial) (d .searched) (firstStepOf (s .initial) (d .searched)) f) →
+      let arc = arcOf s d (anomalyAt (d .searched) (g .place)) in
+      Settled a (g .points) (resultsOf arc) → Ends arc (g .points) a → Reports pr s d Ends a
+  reports {a = a} Ends g so ends =
       let psi = anomalyAt (d .searched) (g .place) in
       let r = resultsOf (arcOf s d psi) in
       record {
-        at = record { place = g .place; points = g .points; anomaly = g .anomaly; used = g .used; at-most = g .at-most; answer = so };
+        at = record { place = g .place; points = g .points; anomaly = g .anomaly; used = g .used; at-most = g .at-most; answer = so; ends = ends };
         reported = settled-points a (g .points) r so;
         psi = λ z. settled-psi a (g .points) r so z ∙ psi-of s d psi;
       }
 
 pub finds-anomaly : FindsAnomaly
-unfolding reachedFound propagateBy partialsBy
+unfolding reachedFound propagateBy partialsBy lentBy
 finds-anomaly pt pr words s nonzero findable =
     let tau = searchedIn s in
     let i = s .start .initial in
     let g = demand3-by (pr i tau) i tau (firstStepOf i tau) nonzero findable in
     let arc = arcOf (s .start) (intervalIn s) (anomalyAt tau (g .place)) in
-    let x : reachedWordsBy pt (searching pr) words ≡ reached.End arc (g .points) = reaches pt pr words s (g .found) in (
-      reports pr (s .start) (intervalIn s) g (rw x (settled (g .points) (endedOf arc) (resultsOf arc) (seven-or-eight arc))),
-      λ run h. reports pr (s .start) (intervalIn s) g (rw (eq-eqb (length run) 36 h, x) (settled-with arc (g .points) (endedOf arc) (resultsOf arc) run h (seven-or-eight arc))),
+    let n = g .points in
+    let e = seven-or-eight arc in
+    let x : reachedWordsBy pt (searching pr) words ≡ reached.End arc n = reaches pt pr words s (g .found) in (
+      reports pr (s .start) (intervalIn s) EndsWith g (rw x (settled n (endedOf arc) (resultsOf arc) e)) (rw x (ends-with arc n)),
+      λ run h.
+          let t = eq-eqb (length run) 36 h in
+          reports pr (s .start) (intervalIn s) (EndsWithPartials run (lentBy pt pr words run)) g
+          (rw (t, x) (settled-with arc n (endedOf arc) (resultsOf arc) run h e))
+          (rw (t, x) (ends-with-partials arc n run)),
     )
 
 -- ---- The points of both calls are those of the search, however they end.

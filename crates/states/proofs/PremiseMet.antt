@@ -29,7 +29,7 @@ use Rattle.states_start.specs.declared.figures.Read.the-variants as read
 use Rattle.states_start.specs.declared.figures.Begun.{Begun}
 use Rattle.states_start.specs.declared.figures.Begun.the-variants as begun
 use Rattle.states.specs.Call.{propagateBy}
-use Rattle.states.specs.CallPromise.{Searches, searchedIn, Reports, AtOnce, NoneComesOff, firstPlace}
+use Rattle.states.specs.CallPromise.{Searches, searchedIn, EndsWith, Reports, AtOnce, NoneComesOff, firstPlace}
 use Rattle.states.proofs.CallPromise.{finds-anomaly, nothing-searched}
 
 -- "μ = 0, position (1,0,0), at rest, τ = 1"
@@ -60,7 +60,7 @@ nonzero : eq (oneSecond .0) n0 ≡ false
 unfolding eq ofBits
 nonzero = refl
 
-pub p10-found : (pr : Proposing) → Reports pr start (asItIs whole) (propagateBy intervalOf pr p10)
+pub p10-found : (pr : Proposing) → Reports pr start (asItIs whole) EndsWith (propagateBy intervalOf pr p10)
 unfolding p10-searches intervalOf asItIs
 p10-found pr = finds-anomaly intervalOf pr p10 p10-searches nonzero (subst (Findable (trialAt atRest oneSecond)) (sym first-place) findable) .0
 

@@ -7,7 +7,7 @@ use Prim.Native.Nat.{ℕ, _<_, _≤_}
 use lib.Ieee.{binary64, eq, ofBits}
 use lib.ListN.{length}
 use Rattle.bits.specs.Arithmetic.{n0, isFinite}
-use Rattle.bits.specs.Words.{placeOf}
+use Rattle.bits.specs.Words.{placeOf, wordsOf}
 use Rattle.search_points.specs.Trial.{anomalyAt, trialAt}
 use Rattle.search_rule.specs.RulePromise.{Findable, IsAnomaly}
 use Rattle.search.specs.Search.{Proposing}
@@ -18,7 +18,12 @@ use Rattle.states_revolutions.specs.declared.figures.WholeInterval.{WholeInterv
 use Rattle.states_revolutions.specs.declared.figures.Interval.{Interval}
 use Rattle.states_revolutions.specs.declared.figures.Course.{Course}
 use Rattle.states_revolutions.specs.declared.figures.Off.the-variants as off
-use Rattle.states_arcs.specs.Results.{arcOf, resultsOf}
+use Rattle.states_arcs.specs.Results.{arcOf, resultsOf, endedOf}
+use Rattle.states_arcs.specs.declared.figures.Arc.{Arc}
+use Rattle.states_arcs.specs.declared.figures.Results.{Results}
+use Rattle.states_arcs.specs.declared.figures.Ended.the-variants as ended
+use Rattle.states_partials.specs.Entries.{entriesOf}
+use Rattle.states_partials.specs.Partials.{partialsRefusal}
 use Rattle.states_start.specs.Given.{figureRefusal, readOf, AnyBad, FirstBad}
 use Rattle.states_start.specs.Initial.{begunOf, firstStepOf}
 use Rattle.states.specs.Call.{Parting, wholly, refused, answered, noResults, orbitWords, propagateBy}
@@ -107,10 +112,28 @@ searchedIn s = intervalIn s .searched
 abbrev pub firstPlace : Start → Seconds → ℕ
 firstPlace s tau = placeOf (firstStepOf (s .initial) tau .0)
 
+-- How a call ends, at the arc of the anomaly that it found and with the points used.
+abbrev pub Ending : Type 1
+Ending = Arc → (points : ℕ) → Answer → Type 0
+
+-- Without partials. Refusal 7: "r at the found ψ isn't greater than zero"; 8: "a divisor under Results and partials is zero, or a figure of the answer isn't
+-- finite": of this arc, and of no other.
+pub record EndsWith (arc : Arc) (points : ℕ) (a : Answer) : Type 0 where
+  pub refuses : (k : ℕ) → endedOf arc ≡ ended.Refused k → a ≡ refused k points
+  pub answers : (r : Results) → endedOf arc ≡ ended.Results r → a ≡ answered points r
+
+-- With them: 8 also by "the partials' own divisors and figures". "lent memory keeps its bytes", or holds the partials of this arc.
+pub record EndsWithPartials (run after : List ℕ) (arc : Arc) (points : ℕ) (a : Answer) : Type 0 where
+  pub refuses : (k : ℕ) → endedOf arc ≡ ended.Refused k → (a ≡ refused k points) × (after ≡ run)
+  pub refuses-partials :
+      (r : Results) (k : ℕ) → endedOf arc ≡ ended.Results r → partialsRefusal arc run ≡ k → 0 < k → (a ≡ refused k points) × (after ≡ run)
+  pub answers :
+      (r : Results) → endedOf arc ≡ ended.Results r → partialsRefusal arc run ≡ 0 → (a ≡ answered points r) × (after ≡ wordsOf (entriesOf arc))
+
 -- "At most 167 trial points are spent, and the reported number is how many the search used. The call answers with that anomaly or refuses by 7 or 8 alone." The
 -- anomaly is `anomalyAt` of the searched interval and the place. Since T-01 demand 3 reads: "a zero error, or one end of an adjacent short and past pair,
 -- chosen so". That is `IsAnomaly`, by sorts; `sorts-mean` of crate `search_points` says the same by document 01's R.
-pub record AnswersAt (pr : Proposing) (s : Start) (d : Interval) (a : Answer) : Type 0 where
+pub record AnswersAt (pr : Proposing) (s : Start) (d : Interval) (Ends : Ending) (a : Answer) : Type 0 where
   pub place : ℕ
   pub points : ℕ
   pub anomaly : IsAnomaly (trialAt (s .initial) (d .searched)) place
@@ -119,10 +142,12 @@ pub record AnswersAt (pr : Proposing) (s : Start) (d : Interval) (a : Answer) : 
   pub answer :
       (a ≡ answered points (resultsOf (arcOf s d (anomalyAt (d .searched) place))))
       ⊎ ((a ≡ refused 7 points) ⊎ (a ≡ refused 8 points))
+  -- Which of the three it is, the arc at that anomaly says.
+  pub ends : Ends (arcOf s d (anomalyAt (d .searched) place)) points a
 
 -- The reported number, and the ψ of an answer: T-04, "the ψ handed out is the reduced one".
-pub record Reports (pr : Proposing) (s : Start) (d : Interval) (a : Answer) : Type 0 where
-  pub at : AnswersAt pr s d a
+pub record Reports (pr : Proposing) (s : Start) (d : Interval) (Ends : Ending) (a : Answer) : Type 0 where
+  pub at : AnswersAt pr s d Ends a
   pub reported : a .points ≡ at .points
   pub psi : a .refusal ≡ 0 → a .results .psi ≡ anomalyAt (d .searched) (at .place)
 
@@ -134,8 +159,8 @@ abbrev pub FindsAnomaly : Type 0
 FindsAnomaly =
     (pt : Parting) (pr : Proposing) (words : List ℕ) (s : Searches pt words) → eq (searchedIn s .0) n0 ≡ false →
     Findable (trialAt (s .start .initial) (searchedIn s)) (firstPlace (s .start) (searchedIn s)) →
-    Reports pr (s .start) (intervalIn s) (propagateBy pt pr words)
-    × ((run : List ℕ) → length run ≡ 36 → Reports pr (s .start) (intervalIn s) (partialsBy pt pr words run))
+    Reports pr (s .start) (intervalIn s) EndsWith (propagateBy pt pr words)
+    × ((run : List ℕ) → length run ≡ 36 → Reports pr (s .start) (intervalIn s) (EndsWithPartials run (lentBy pt pr words run)) (partialsBy pt pr words run))
 
 -- T-01, "Point counts stay", for both calls, however they end: the points are those of the history, which does not depend on the end that is answered.
 abbrev pub CountsPoints : Type 0

@@ -1,4 +1,4 @@
--- One arc and its results, evaluated from the definitions. The figures come from an independent program.
+-- One arc and its results, evaluated from the definitions; the figures come from an independent program. And refusals 7 and 8 by r.
 use mathlib.Core.Path.{_≡_, refl}
 use Prim.Native.Nat.{ℕ}
 use lib.Ieee.{Float, binary64, add, sub, mul, div, neg, lt, eq, ofBits, toBits}
@@ -67,3 +67,32 @@ its-results :
     })
 unfolding mul div neg lt eq ofBits toBits accelerationOf resultsOf figuresOf endedOf firstOf has arc
 its-results = refl
+
+-- Refusal 7, "r at the found ψ isn't greater than zero", whatever else an arc has: either zero, minus the least double, minus infinity, a NaN.
+abbrev withRadius : Arc → ℕ → Arc
+withRadius a r =
+    record {
+      start = a .start;
+      interval = a .interval;
+      psi = a .psi;
+      c = a .c;
+      s = a .s;
+      r = ofWord r;
+      factors = a .factors;
+      end = a .end;
+    }
+
+not-above :
+    (a : Arc) →
+    (endedOf (withRadius a 0) ≡ ended.Refused 7)
+    × (endedOf (withRadius a 0x8000000000000000) ≡ ended.Refused 7)
+    × (endedOf (withRadius a 0x8000000000000001) ≡ ended.Refused 7)
+    × (endedOf (withRadius a 0xfff0000000000000) ≡ ended.Refused 7)
+    × (endedOf (withRadius a 0x7ff8000000000000) ≡ ended.Refused 7)
+unfolding lt ofBits endedOf
+not-above a = (refl, refl, refl, refl, refl)
+
+-- The least double is above zero, and its cube is zero: 8.
+above : endedOf (withRadius arc 1) ≡ ended.Refused 8
+unfolding add sub mul div neg lt eq ofBits toBits accelerationOf resultsOf figuresOf endedOf firstOf has arc
+above = refl

@@ -1,5 +1,5 @@
 -- Document 01, "Results and partials", its first paragraph, with refusals 7 and 8.
-use mathlib.Core.Bool.{not}
+use mathlib.Core.Bool.{Bool, not}
 use mathlib.Core.List.{List, [], _∷_, _++_}
 use lib.Ieee.{Float, lt, neg}
 use Rattle.bits.specs.Choice.{pick}
@@ -90,11 +90,15 @@ figuresOf r =
     ++ components (r .«start_acceleration»)
     ++ (r .psi .0 ∷ [])
 
--- Refusal 7: "r at the found ψ isn't greater than zero". Refusal 8: "a divisor under Results and partials is zero, or a figure of the answer isn't finite",
--- without the partials' own, which crate `states_partials` adds.
+-- Refusal 7: "r at the found ψ isn't greater than zero". A NaN isn't.
+abbrev pub isNotAbove : Float → Bool
+isNotAbove r = not (lt n0 r)
+
+-- Refusal 8: "a divisor under Results and partials is zero, or a figure of the answer isn't finite", without the partials' own, which crate `states_partials`
+-- adds.
 unfoldable pub endedOf : Arc → Ended
 endedOf a =
-    pick (not (lt n0 (a .r))) (ended.Refused 7)
+    pick (isNotAbove (a .r)) (ended.Refused 7)
     (pick (has sought.Zero (wordsOf (endDivisors (a .start .initial .r0) (a .r)))) (ended.Refused 8)
     (pick (has sought.NotFinite (wordsOf (figuresOf (resultsOf a)))) (ended.Refused 8)
     (ended.Results (resultsOf a))))

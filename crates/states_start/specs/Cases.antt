@@ -1,5 +1,5 @@
--- Words that are not finite, and the initial figures of one orbit, evaluated from the definitions; the figures come from an independent program. Document 01's
--- marked cases are in the table of crate `files_results`.
+-- Words that are not finite, refusal 4 by one figure alone, and the initial figures of one orbit, evaluated from the definitions; the figures come from an
+-- independent program. Document 01's marked cases are in the table of crate `files_results`.
 use mathlib.Core.Path.{_≡_, refl}
 use mathlib.Core.List.{List, [], _∷_}
 use Prim.Native.Nat.{ℕ}
@@ -43,6 +43,23 @@ of-several :
     × (readOf (nan ∷ nan ∷ nan ∷ nan ∷ nan ∷ nan ∷ nan ∷ nan ∷ []) ≡ read.Refused 31)
 unfolding firstOf has readOf eq ofBits
 of-several = (refl, refl, refl)
+
+-- ---- Refusal 4 by one figure alone.
+-- By σ0, which its rounding alone can bring. Let u be 2^971, the last place of the greatest double G. x and vx are 2^512−2^459: x², x·vx and vx² round to G−u.
+-- Then y² = u/2, y·vy = 3u/4 and vy² = 9u/8; z² = 9u/8, z·vz = 21u/32 and vz² = 49u/128. So the sum goes from G−u over G−u, a tie, to G; v² from G−u over G
+-- to G; and σ0 from G−u over G to more than half of u beyond it.
+sigma0-alone :
+    begunOf
+    (orbit
+    (0 ∷ 0x5fefffffffffffff ∷ 0x5e40000000000000 ∷ 0x5e48000000000000 ∷ 0x5fefffffffffffff ∷ 0x5e48000000000000 ∷ 0x5e3c000000000000 ∷ 0 ∷ []))
+    ≡ begun.Refused 4
+unfolding firstOf has dot begunOf rootWordOf rootOf add sub mul div eq ofBits toBits
+sigma0-alone = refl
+
+-- By α: r0 = 1, v² = 9·2^1020, and (2·μ)/r0 is minus that.
+alpha-alone : begunOf (orbit (0xffd2000000000000 ∷ 0x3ff0000000000000 ∷ 0 ∷ 0 ∷ 0 ∷ 0x5fe8000000000000 ∷ 0 ∷ 0 ∷ [])) ≡ begun.Refused 4
+unfolding firstOf has dot begunOf rootWordOf rootOf add sub mul div eq ofBits toBits
+alpha-alone = refl
 
 -- μ = 1, position (1, 0.25, -0.5), velocity (0.125, 1, 0.5), τ = 1.5: r0, σ0, α, the course and H.
 an-orbit : List ℕ

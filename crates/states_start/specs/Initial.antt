@@ -1,6 +1,6 @@
 -- Document 01, "Initial figures and series (document 003, 3.4)", up to H, with refusals 3 and 4. The orbit and τ may be any doubles.
 use mathlib.Core.Path.{_≡_, refl}
-use mathlib.Core.List.{[], _∷_}
+use mathlib.Core.List.{List, [], _∷_}
 use Prim.Native.Nat.{_^_}
 use lib.IntN.{pos}
 use lib.Ieee.{Float, binary64, div, eq, ofBits, ofInt}
@@ -28,14 +28,17 @@ dot a b = (a .x ⊗ b .x ⊕ a .y ⊗ b .y) ⊕ a .z ⊗ b .z
 abbrev pub startFrom : State → Initial → Begun
 startFrom s i = begun.Start (record { state = s; initial = i }) (courseOf i)
 
--- "α = v² − (2·μ)/r0". Refusal 3: "(x·x+y·y)+z·z is zero". Refusal 4: "that sum, σ0, v², (2·μ)/r0, α or H below isn't finite"; H belongs to the interval, and
--- its refusal is in Call of crate `states`.
+-- Refusal 4: "that sum, σ0, v², (2·μ)/r0, α or H below isn't finite"; H belongs to the interval, and its refusal is in Call of crate `states`.
+abbrev pub fiveFigures : (sum sigma0 v2 quotient alpha : Float) → List Float
+fiveFigures sum sigma0 v2 quotient alpha = sum ∷ sigma0 ∷ v2 ∷ quotient ∷ alpha ∷ []
+
+-- "α = v² − (2·μ)/r0". Refusal 3: "(x·x+y·y)+z·z is zero"; then 4.
 abbrev pub begunFrom : Orbit → (sum r0 sigma0 v2 : Float) → Begun
 begunFrom o sum r0 sigma0 v2 =
     let quotient = (n2 ⊗ o .mu) ⊘ r0 in
     let alpha = v2 ⊖ quotient in
     pick (eq sum n0) (begun.Refused 3)
-    (pick (has NotFinite (wordsOf (sum ∷ sigma0 ∷ v2 ∷ quotient ∷ alpha ∷ []))) (begun.Refused 4)
+    (pick (has NotFinite (wordsOf (fiveFigures sum sigma0 v2 quotient alpha))) (begun.Refused 4)
     (startFrom (o .state) (record { mu = o .mu; r0 = r0; sigma0 = sigma0; alpha = alpha })))
 
 -- "r0 = root of that sum"

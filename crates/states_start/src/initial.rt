@@ -1,8 +1,7 @@
 // The start of an orbit, and the first step of its search.
 ghost use mathlib.Core.Path.{_≡_};
-ghost use mathlib.Core.List.{[], _∷_};
 ghost use Rattle.bits.specs.Words.{wordsOf};
-ghost use Rattle.states_start.specs.Initial.{dot, begunOf, firstStepOf};
+ghost use Rattle.states_start.specs.Initial.{dot, fiveFigures, begunOf, firstStepOf};
 use super::figures::Begun;
 use super::figures::Orbit;
 use super::figures::Start;
@@ -26,7 +25,7 @@ fn product(a: Vector, b: Vector) -> f64
 
 // The words of the five figures by which refusal 4 is given.
 fn tested(sum: f64, sigma0: f64, v2: f64, quotient: f64, alpha: f64) -> [u64; 5]
-    ensures { λ r. ⌜ r ≡ wordsOf (sum ∷ sigma0 ∷ v2 ∷ quotient ∷ alpha ∷ []) ⌝ }
+    ensures { λ r. ⌜ r ≡ wordsOf (fiveFigures sum sigma0 v2 quotient alpha) ⌝ }
 {
     [
         word_of(sum),

@@ -30,6 +30,7 @@ void least_units(uint64_t *words);
 void even_ends(uint64_t *words);
 void infinite_past(uint64_t *words);
 void infinite_short(uint64_t *words);
+void nan_radius(uint64_t *words);
 void to_centre(uint64_t *words);
 void no_figures(uint64_t *words);
 void start_alone(uint64_t *words);

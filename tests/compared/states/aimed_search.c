@@ -6,6 +6,7 @@
 
 #include <float.h>
 #include <math.h>
+#include <string.h>
 
 static const double at_rest[3];
 
@@ -156,10 +157,26 @@ void infinite_past(uint64_t *words)
 }
 
 /*
+**  One that was found by a search over many, with no pull: position, velocity, tau. A power of two on position and
+**  velocity leaves R as it is, one on the speed alone takes R along with tau, and signs change nothing.
+*/
+static void put_found(uint64_t *words, const double *one, double length, double speed)
+{
+    double back = any_sign(1.0), p[3], v[3], mu = any_sign(0.0);
+    int i;
+
+    for (i = 0; i < 3; i++) {
+        double side = any_sign(length);
+        p[i] = side * one[i];
+        v[i] = back * side * speed * one[3 + i];
+    }
+    put(words, mu, p, v, back / speed * one[6]);
+}
+
+/*
 **  An infinite R, short, beside a past end whose R is infinite too, or finite. Straight at the centre with no pull,
 **  r0 s1 and sigma0 s2 cancel but for rounding; so where they overflow, it is a matter of chance which of them is infinite, and
-**  R is another from place to place. A search over many found these: position, velocity, tau. The powers of two below,
-**  on position and velocity, leave them as they are, and so do signs.
+**  R is another from place to place.
 */
 void infinite_short(uint64_t *words)
 {
@@ -176,15 +193,41 @@ void infinite_short(uint64_t *words)
           -0x1.064fbe5cc6fb5p-217, -0x1.6f413d00f8be5p-225, -0x1.e549f335c5568p-226, 0x1.f032595753393p+688 },
     };
     const double *one = found[any_below(sizeof found / sizeof found[0])];
-    double scale = power(-3, 15), back = any_sign(1.0), p[3], v[3], mu = any_sign(0.0);
-    int i;
+    double scale = power(-3, 15);
 
-    for (i = 0; i < 3; i++) {
-        double side = any_sign(scale);
-        p[i] = side * one[i];
-        v[i] = back * side * one[3 + i];
-    }
-    put(words, mu, p, v, back * one[6]);
+    put_found(words, one, scale, 1);
+}
+
+/*
+**  Refusal 7 by an r that is a NaN. Straight at the centre with no pull, r0 c0 and sigma0 s1 are infinite with two signs
+**  where R is finite by the speed; R is rounding alone there, and so it is a matter of chance where the search ends. The
+**  first was met in a comparison of millions. It goes in from place 0, and has other halving places at another scale, so
+**  it stays as it is.
+*/
+void nan_radius(uint64_t *words)
+{
+    static const double found[][7] = {
+        { 0x1.204a92c57f38ap+471, 0, 0, -0x1.5f6655950ef78p+396, 0, 0, 0x1.dd88e233d9e1ap+103 },
+        /* the short end */
+        { 0x1.24e4e270ec2eap+500, 0, 0, -0x1.cacef36a8db16p+300, 0, 0, 0x1.6c65c8d1866b5p+227 },
+        { 0x1.52f8f823366bep+500, 0x1.19e51da80aa91p+499, -0x1.159c12f1b9338p+499,
+          -0x1.5640c70da45c9p+300, -0x1.1c9f838a8b561p+299, 0x1.184bdae540dbfp+299, 0x1.18ec75fb284dfp+228 },
+        /* the short end, where r0 s1 and sigma0 s2 are alike: R is minus tau */
+        { 0x1.b75fdf0a4e133p+500, 0, 0, -0x1.bd59c9184acaap+300, 0, 0, 0x1.18318584a19d3p+228 },
+        { 0x1.479cd573a32e3p+499, -0x1.839c6d3a97b64p+499, 0x1.beb705ae0294cp+499,
+          -0x1.d93f2d80825f3p+299, 0x1.17f54c18053a1p+300, -0x1.42a59bd062bb5p+300, 0x1.8b441901cfcbcp+227 },
+        /* the past end */
+        { 0x1.c34a1698bae4ep+500, 0, 0, -0x1.d53fe00495db2p+300, 0, 0, 0x1.11f1b3f07a79p+228 },
+        { 0x1.7ff9b7e7851adp+498, -0x1.d5df6680ea594p+499, -0x1.a5c2ac6d01cbep+500,
+          -0x1.676b6af115769p+298, 0x1.b7d2d2ce9c787p+299, 0x1.8ac9c5829219cp+300, 0x1.30ee0e986cc8dp+228 },
+    };
+    size_t which = any_below(sizeof found / sizeof found[0]);
+    double one[7], length = power(-100, 10), speed = power(0, 80);
+
+    memcpy(one, found[which], sizeof one);
+    if (one_in(4))     /* another tau, and so another chance */
+        one[6] *= between(0.95, 1.05);
+    put_found(words, one, which == 0 ? 1 : length, which == 0 ? 1 : speed);
 }
 
 /* Refusal 7: straight at the centre with no pull, or with a little, until r is but rounding. */

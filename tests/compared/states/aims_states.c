@@ -18,7 +18,7 @@ enum aim {
     PAST_NEARER, SHORT_NEARER, FINITE_TIE, SUBNORMAL_TIE, BOTH_INFINITE, INFINITE_ANSWERED,
     SHORT_INFINITE, PAST_INFINITE,
     ZERO_BY_TIE, MINUS_ZERO_BY_TIE, ZERO_NEARER, MINUS_ZERO_NEARER, PAST_ZERO, PAST_MINUS_ZERO,
-    NOT_ABOVE, INFINITE_RADIUS, START_ACCELERATION, PARTIALS_ONLY,
+    NOT_ABOVE, NAN_RADIUS, INFINITE_RADIUS, START_ACCELERATION, PARTIALS_ONLY,
     PERIOD_ZERO, PERIOD_INFINITE, PERIOD_NAN, QUOTIENT_INFINITE, SUBNORMAL_MU, SUBNORMAL_DIVISOR,
     NO_TURN, ONE_TURN, ONE_TURN_BACK, MOST_TURNS, MOST_TURNS_BACK, TOO_MANY, TOO_MANY_BACK,
     HALFWAY, HALFWAY_BACK, ROUNDED_UP,
@@ -39,7 +39,7 @@ static const char *const names[AIMS] = {
     "both R infinite", "both R infinite and psi answered",
     "past end beside an infinite R", "short end beside an infinite R",
     "+0 by a tie", "-0 by a tie", "+0 nearer", "-0 nearer", "place 1 past +0", "place 1 past -0",
-    "7 by r at zero or below", "an infinite r answered", "8 with no start acceleration", "8 by the partials only",
+    "7 by r at zero or below", "7 by r a NaN", "an infinite r answered", "8 with no start acceleration", "8 by the partials only",
     "P zero", "P infinite", "P NaN", "tau/P infinite", "turns off by a subnormal mu", "turns off by a subnormal divisor",
     "n 0", "n 1", "n -1", "n 2^40", "n -2^40", "n 2^40+1", "n -2^40-1",
     "tau/P halfway above zero", "tau/P halfway below zero", "tau/P+1/2 rounded up to a whole number",
@@ -218,6 +218,7 @@ static void see_found(const struct start *s, int sort, uint64_t propagated)
     if (!sec_zero(at.error))
         see_pair(s, found.psi, at.error, propagated);
     seen[NOT_ABOVE] += at.radius <= 0;
+    seen[NAN_RADIUS] += sec_nan(at.radius) && propagated == 7;
     seen[INFINITE_RADIUS] += !sec_finite(at.radius) && propagated == 0;
     if (propagated == 8 && !sec_zero(cube))
         seen[START_ACCELERATION] += !sec_finite(s->mu * s->position[0] / cube);

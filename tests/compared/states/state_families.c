@@ -36,6 +36,7 @@ static const struct state_family rows[] = {
     { { "even ends", 2 }, 1, even_ends },
     { { "infinite past end", 1 }, 1, infinite_past },
     { { "infinite short end", 1 }, 1, infinite_short },
+    { { "NaN r", 2 }, 1, nan_radius },
     { { "to the centre", 3 }, 1, to_centre },
     { { "no figures", 2 }, 1, no_figures },
     { { "start alone", 2 }, 1, start_alone },

@@ -1,27 +1,25 @@
 -- The tests of the code are those of the definition, at the words that the calls ensure.
 use mathlib.Core.Path.{_≡_, sym, _∙_}
-use mathlib.Core.Bool.{Bool, true, false, not}
+use mathlib.Core.Bool.{Bool, true, false}
 use mathlib.Core.List.{List}
 use Prim.Native.Nat.{ℕ}
 use borrow.Author.Needs.{needs}
-use lib.Ieee.{lt}
 use Rattle.bits.specs.Choice.{pick}
-use Rattle.bits.specs.Arithmetic.{n0}
 use Rattle.bits.specs.Words.{wordsOf}
 use Rattle.bits.specs.Runs.{has}
 use Rattle.bits.specs.declared.runs.Sought.the-variants.{Zero, NotFinite}
-use Rattle.states_arcs.specs.Results.{resultsOf, endDivisors, figuresOf, endedOf}
+use Rattle.states_arcs.specs.Results.{resultsOf, endDivisors, figuresOf, isNotAbove, endedOf}
 use Rattle.states_arcs.specs.declared.figures.Arc.{Arc}
 use Rattle.states_arcs.specs.declared.figures.Results.{Results}
 use Rattle.states_arcs.specs.declared.figures.Ended.the-variants as ended
 use Rattle.states_arcs.proofs.results.ended.Statement.{statement}
 use Rattle.states_arcs.proofs.results.ended.Tie as tie
 
-not-above : (a : Arc) → not (lt n0 (a .r)) ≡ true → ended.Refused 7 ≡ endedOf a
+not-above : (a : Arc) → isNotAbove (a .r) ≡ true → ended.Refused 7 ≡ endedOf a
 unfolding endedOf
 not-above a h = rw h
 
-module _ (a : Arc) (h : not (lt n0 (a .r)) ≡ false) (divisors : List ℕ) (ed : divisors ≡ wordsOf (endDivisors (a .start .initial .r0) (a .r))) where
+module _ (a : Arc) (h : isNotAbove (a .r) ≡ false) (divisors : List ℕ) (ed : divisors ≡ wordsOf (endDivisors (a .start .initial .r0) (a .r))) where
   zero-divisor : has Zero divisors ≡ true → ended.Refused 8 ≡ endedOf a
   unfolding endedOf
   zero-divisor z = rw (h, ← ed, z)

@@ -1,7 +1,7 @@
 -- The tests of the code are those of the definition, at the figures that the calls ensure.
 use mathlib.Core.Path.{_≡_, sym, _∙_, ap}
 use mathlib.Core.Bool.{Bool, true, false}
-use mathlib.Core.List.{List, [], _∷_}
+use mathlib.Core.List.{List}
 use Prim.Native.Nat.{ℕ}
 use borrow.Author.Needs.{needs}
 use lib.Ieee.{Float, eq}
@@ -14,7 +14,7 @@ use Rattle.bits.specs.declared.runs.Sought.the-variants.{NotFinite}
 use Rattle.search_points.specs.declared.figures.Initial.{Initial}
 use Rattle.states_revolutions.specs.Revolutions.{courseOf}
 use Rattle.states_revolutions.specs.declared.figures.Course.{Course}
-use Rattle.states_start.specs.Initial.{dot, startFrom, begunFrom, begunOf}
+use Rattle.states_start.specs.Initial.{dot, startFrom, fiveFigures, begunFrom, begunOf}
 use Rattle.states_start.specs.declared.figures.Orbit.{Orbit}
 use Rattle.states_start.specs.declared.figures.Begun.the-variants.{Start, Refused}
 use Rattle.states_start.proofs.initial.start_of.Statement.{statement}
@@ -28,7 +28,7 @@ module _ (o : Orbit) (sum r0 sigma0 v2 : Float) (words : List ℕ)
     (es : sum ≡ dot (o .state .position) (o .state .position)) (er : r0 ≡ rootOf sum)
     (eg : sigma0 ≡ dot (o .state .position) (o .state .velocity)) (ev : v2 ≡ dot (o .state .velocity) (o .state .velocity))
     (z : eq sum n0 ≡ false)
-    (ew : words ≡ wordsOf (sum ∷ sigma0 ∷ v2 ∷ ((n2 ⊗ o .mu) ⊘ r0) ∷ (v2 ⊖ (n2 ⊗ o .mu) ⊘ r0) ∷ [])) where
+    (ew : words ≡ wordsOf (fiveFigures sum sigma0 v2 ((n2 ⊗ o .mu) ⊘ r0) (v2 ⊖ (n2 ⊗ o .mu) ⊘ r0))) where
   from-calls : begunFrom o sum r0 sigma0 v2 ≡ begunOf o
   unfolding begunOf
   from-calls = λ i. begunFrom o (es i) ((er ∙ ap rootOf es) i) (eg i) (ev i)

@@ -1,0 +1,153 @@
+-- Doubles whose magnitude is no more than a power of two, and what the four operations make of them. Rounding keeps the order, and the power is a double, so
+-- none of the results is infinite or a NaN.
+use Prim.Native.Nat.{ℕ, zero, suc, _+_, _-_, _*_, _^_, _≤_, _<_}
+use mathlib.Core.Path.{_≡_, refl, sym, ap, subst, _∙_}
+use mathlib.Core.Bool.{Bool, true, false, cond, _&&_, _||_, Bool·beq, true≢false}
+use native.Mathlib.Omega.{arith}
+use native.Mathlib.Nat.{le-trans, mul-one, one-mul, mul-pos, mul-le-mul, mul-le-mul-left, mul-le-mul-right, le-of-mul-le-mul-right}
+use borrow.Author.Tests.{eq-eqb, ne-eqb}
+use lib.Dec.{T, ltb, eqb, ltb→lt, eqb→eq, lit<}
+use lib.Pow.{pow-add, pow-lt, pow-mono, pow-pos}
+use lib.Ieee.{Float, nan, inf, fin, Format, binary64, prec, emax, low, up, down, unlike, odd, units, round, sum, add, sub, neg, mul, div, le, eq, ne}
+use lib.Ieee.Fits.{down-pos}
+use lib.Ieee.Exact.{HasValue, round-exact}
+use lib.Ieee.Order.{round-mono}
+use Rattle.bits.specs.Arithmetic.{_⊕_, _⊖_, _⊗_, _⊘_, isFinite, magnitude}
+
+-- Finite, and at most 2 ^ j in magnitude.
+abbrev pub Within : ℕ → Float → Type 0
+Within j nan = ⊥
+Within j (inf s) = ⊥
+Within j (fin s m e) = m * up e ≤ 2 ^ j * down e
+
+-- Finite, and at least 2 ^ k in magnitude.
+abbrev pub AtLeast : ℕ → Float → Type 0
+AtLeast k nan = ⊥
+AtLeast k (inf s) = ⊥
+AtLeast k (fin s m e) = 2 ^ k * down e ≤ m * up e
+
+pub wider : (j k : ℕ) (x : Float) → j ≤ k → Within j x → Within k x
+wider j k nan h w = absurd w
+wider j k (inf s) h w = absurd w
+wider j k (fin s m e) h w = le-trans w (mul-le-mul-right (down e) (pow-mono h))
+
+pub within-finite : (j : ℕ) (x : Float) → Within j x → isFinite x ≡ true
+within-finite j nan w = absurd w
+within-finite j (inf s) w = absurd w
+within-finite j (fin s m e) w = refl
+
+pub within-no-nan : (j : ℕ) (x : Float) → Within j x → ne x x ≡ false
+unfolding ne eq
+within-no-nan j nan w = absurd w
+within-no-nan j (inf s) w = absurd w
+within-no-nan j (fin true m e) w = rw (eq-eqb (m * up e * down e) (m * up e * down e) refl)
+within-no-nan j (fin false m e) w = rw (eq-eqb (m * up e * down e) (m * up e * down e) refl)
+
+pub within-neg : (j : ℕ) (x : Float) → Within j x → Within j (neg x)
+unfolding neg
+within-neg j nan w = w
+within-neg j (inf s) w = w
+within-neg j (fin s m e) w = w
+
+-- ---- Rounding.
+le-or-eq : (a b : ℕ) (c : Bool) → T (ltb a b || (eqb a b && c)) → a ≤ b
+le-or-eq a b c t = go (ltb a b) (eqb a b) (ltb→lt a b) (eqb→eq a b) t
+  where
+    go : (x y : Bool) → (T x → a < b) → (T y → a ≡ b) → T (x || (y && c)) → a ≤ b
+    go true y f g t = omega (arith, f tt)
+    go false true f g t = omega (arith, g tt)
+    go false false f g t = absurd t
+
+by-power : (j : ℕ) (x z : Float) → T (le (magnitude x) z) → HasValue z false (2 ^ j) 1 → Within j x
+unfolding le
+by-power j nan z t v = absurd t
+by-power j (inf s) nan t v = absurd v
+by-power j (inf s) (inf u) t v = absurd v
+by-power j (inf s) (fin u n d) t v = absurd t
+by-power j (fin s m e) nan t v = absurd v
+by-power j (fin s m e) (inf u) t v = absurd v
+by-power j (fin s m e) (fin true n d) t v = absurd (true≢false (v .0))
+by-power j (fin s m e) (fin false n d) t v =
+    let h : m * up e * down d ≤ n * up d * down e = le-or-eq _ _ _ t in
+    let w : n * up d * down e ≡ 2 ^ j * down d * down e = ap (λ (k : ℕ). k * down e) (sym (mul-one (n * up d)) ∙ v .1) in
+    le-of-mul-le-mul-right (omega arith) (down-pos d)
+
+magnitude-odd : (d : ℕ) (s : Bool) (q k l : ℕ) → magnitude (odd d s q k l) ≡ odd d false q k l
+unfolding odd
+magnitude-odd d s zero k l = refl
+magnitude-odd d s (suc q) k l = refl
+
+magnitude-cond : (b s : Bool) (d q k l : ℕ) → magnitude (cond b (odd d s q k l) (inf s)) ≡ cond b (odd d false q k l) (inf false)
+magnitude-cond true s d q k l = magnitude-odd d s q k l
+magnitude-cond false s d q k l = refl
+
+magnitude-units : (f : Format) (s : Bool) (q k : ℕ) → magnitude (units f s q k) ≡ units f false q k
+unfolding units
+magnitude-units f s q k = magnitude-cond (ltb (q * 2 ^ k) (2 ^ (low f + suc (emax f)))) s (suc (prec f)) q k (low f)
+
+magnitude-round : (f : Format) (s : Bool) (a b : ℕ) → magnitude (round f s a b) ≡ round f false a b
+unfolding round
+magnitude-round f s a b = magnitude-units f s _ _
+
+power : (j : ℕ) → j < 1024 → HasValue (round binary64 false (2 ^ j) 1) false (2 ^ j) 1
+power j h = round-exact binary64 false (2 ^ j) 1 1 (j + 1074) (lit< tt) (lit< tt)
+    (subst (λ (k : ℕ). k < 2 ^ 2098) (sym (one-mul (2 ^ (j + 1074)))) (pow-lt {j = 2098} (omega arith)))
+    (sym (mul-one (1 * 2 ^ (j + 1074)) ∙ one-mul (2 ^ (j + 1074)) ∙ pow-add 2 j 1074))
+
+rounded : (j : ℕ) (s : Bool) (a c : ℕ) → j < 1024 → 0 < c → a ≤ 2 ^ j * c → Within j (round binary64 s a c)
+rounded j s a c J C h =
+    by-power j (round binary64 s a c) (round binary64 false (2 ^ j) 1)
+    (subst (λ (x : Float). T (le x (round binary64 false (2 ^ j) 1))) (sym (magnitude-round binary64 s a c)) (round-mono binary64 a c (2 ^ j) 1 C (lit< tt) (omega arith)))
+    (power j J)
+
+-- ---- The operations.
+pub product : (j k : ℕ) (x y : Float) → j + k < 1024 → Within j x → Within k y → Within (j + k) (x ⊗ y)
+unfolding mul
+product j k nan y h v w = absurd v
+product j k (inf s) y h v w = absurd v
+product j k (fin s m e) nan h v w = absurd w
+product j k (fin s m e) (inf t) h v w = absurd w
+product j k (fin s m e) (fin t n d) h v w =
+    let p : 2 ^ (j + k) * (down e * down d) ≡ 2 ^ j * 2 ^ k * (down e * down d) = ap (λ (z : ℕ). z * (down e * down d)) (pow-add 2 j k) in
+    rounded (j + k) (unlike s t) (m * up e * (n * up d)) (down e * down d) h (mul-pos (down-pos e) (down-pos d)) (omega (arith, mul-le-mul v w))
+
+sum-within : (j : ℕ) (s t : Bool) (a b c : ℕ) → j + 1 < 1024 → 0 < c → a ≤ 2 ^ j * c → b ≤ 2 ^ j * c → Within (j + 1) (sum binary64 s a t b c)
+unfolding sum
+sum-within j s t a b c J C v w =
+    let p : 2 ^ (j + 1) * c ≡ 2 ^ j * 2 * c = ap (λ (z : ℕ). z * c) (pow-add 2 j 1) in
+    go (Bool·beq s t) (ltb a b) (omega arith) (omega arith) (omega arith)
+  where
+    go : (like less : Bool) → a + b ≤ 2 ^ (j + 1) * c → b - a ≤ 2 ^ (j + 1) * c → a - b ≤ 2 ^ (j + 1) * c
+        → Within (j + 1) (cond like (round binary64 s (a + b) c) (cond less (round binary64 t (b - a) c) (round binary64 (s && ltb b a) (a - b) c)))
+    go true less f g h = rounded (j + 1) s (a + b) c J C f
+    go false true f g h = rounded (j + 1) t (b - a) c J C g
+    go false false f g h = rounded (j + 1) (s && ltb b a) (a - b) c J C h
+
+pub total : (j : ℕ) (x y : Float) → j + 1 < 1024 → Within j x → Within j y → Within (j + 1) (x ⊕ y)
+unfolding add
+total j nan y h v w = absurd v
+total j (inf s) y h v w = absurd v
+total j (fin s m e) nan h v w = absurd w
+total j (fin s m e) (inf t) h v w = absurd w
+total j (fin s m e) (fin t n d) h v w =
+    sum-within j s t (m * up e * down d) (n * up d * down e) (down e * down d) h (mul-pos (down-pos e) (down-pos d))
+    (omega (arith, mul-le-mul-right (down d) v))
+    (omega (arith, mul-le-mul-right (down e) w))
+
+pub difference : (j : ℕ) (x y : Float) → j + 1 < 1024 → Within j x → Within j y → Within (j + 1) (x ⊖ y)
+unfolding sub
+difference j x y h v w = total j x (neg y) h v (within-neg j y w)
+
+pub quotient : (j k : ℕ) (x y : Float) → j < 1024 → Within (j + k) x → AtLeast k y → Within j (x ⊘ y)
+unfolding div
+quotient j k nan y h v w = absurd v
+quotient j k (inf s) y h v w = absurd v
+quotient j k (fin s m e) nan h v w = absurd w
+quotient j k (fin s m e) (inf t) h v w = absurd w
+quotient j k (fin s m e) (fin t n d) h v w =
+    let p : 2 ^ (j + k) * down e * down d ≡ 2 ^ j * 2 ^ k * down e * down d = ap (λ (z : ℕ). z * down e * down d) (pow-add 2 j k) in
+    let q : 0 < 2 ^ k * down d = mul-pos (pow-pos k) (down-pos d) in
+    let r : 0 < n * up d * down e = mul-pos (le-trans q w) (down-pos e) in
+    subst (λ (b : Bool). Within j (cond b (cond (eqb m 0) nan (inf (unlike s t))) (round binary64 (unlike s t) (m * up e * down d) (n * up d * down e))))
+    (sym (ne-eqb n 0 (λ z. omega (arith, q, w, ap (λ (x : ℕ). x * up d) z))))
+    (rounded j (unlike s t) (m * up e * down d) (n * up d * down e) h r (omega (arith, mul-le-mul-right (down d) v, mul-le-mul-left (2 ^ j * down e) w)))

@@ -1,0 +1,2 @@
+-- Whole calls, computed from the definitions of `states`.
+pub mod StateCases
