@@ -27,7 +27,7 @@ crates=$(sed -n 's/^\([a-z_0-9]*\):.*/\1/p' crates.txt)
 for crate in $crates; do
     [ -f "crates/$crate/src/lib.rt" ] || continue
     made=target/rlib/$crate.rlib
-    if [ ! -f "$made/format" ] || [ -n "$(find "crates/$crate/src" "crates/$crate/proofs" -newer "$made/format" -name '*.[ra]*' 2>/dev/null | head -n 1)" ]; then
+    if [ ! -f "$made/format" ] || [ -n "$(find "crates/$crate/src" "crates/$crate/specs" "crates/$crate/proofs" -newer "$made/format" -name '*.[ra]*' 2>/dev/null | head -n 1)" ]; then
         echo "promises: $crate is not proved as it stands: run rt check $crate" >&2
         exit 1
     fi

@@ -42,11 +42,13 @@ use Rattle.states_partials.specs.Partials.{partialsRefusal, lentAfter}
 use Rattle.states_check.specs.Row.{acceptsAt, accepts}
 use Rattle.files_words.specs.Bytes.{asBytes, put, wordAt}
 use Rattle.files_reader.specs.Reader.{readingOf}
+use Rattle.files_reader.specs.Cases.{p10File}
 use Rattle.files_results.specs.Requests.{requestWords}
+use Rattle.files_results.specs.Marked.{p10Result}
 use Rattle.files_results.specs.Results.{rowOf, rowsOf, resultFile, outcomeIn}
 use Rattle.files_check.specs.RowsFile.{rowsCheck, fieldsAt, verdictOf, verdictsOf, judgedOf, verdictsAfter}
 use Rattle.kelubashi.proofs.Calls.{Places, Propagate, Partials, Results, Check}
-use Rattle.kelubashi.proofs.CallCases.{one, minusOne, nan, sevens, p10Words}
+use Rattle.kelubashi.proofs.CallCases.{one, minusOne, nan, sevens}
 
 -- ---- A state.
 abbrev infinite : ℕ
@@ -142,26 +144,9 @@ unfolding
 partials κs at = ((refl, (refl, refl)), (refl, (refl, refl)), (refl, (refl, refl)), (refl, (refl, refl)), (refl, (refl, refl)), (refl, (refl, refl)))
 
 -- ---- "P10 as one request writes, whole", by its bytes; the byte behind them stays.
-abbrev p10Bytes : List ℕ
-p10Bytes =
-    1 ∷ 0 ∷ 0 ∷ 0 ∷ 0 ∷ 0 ∷ 0 ∷ 0
-    ∷ 1 ∷ 0 ∷ 0 ∷ 0 ∷ 0 ∷ 0 ∷ 0 ∷ 0
-    ∷ 0 ∷ 0 ∷ 0 ∷ 0 ∷ 0 ∷ 0 ∷ 0 ∷ 0
-    ∷ 21 ∷ 0 ∷ 0 ∷ 0 ∷ 0 ∷ 0 ∷ 0 ∷ 0
-    ∷ 0 ∷ 0 ∷ 0 ∷ 0 ∷ 0 ∷ 0 ∷ 0xf0 ∷ 0x3f
-    ∷ 0 ∷ 0 ∷ 0 ∷ 0 ∷ 0 ∷ 0 ∷ 0 ∷ 0
-    ∷ 0 ∷ 0 ∷ 0 ∷ 0 ∷ 0 ∷ 0 ∷ 0 ∷ 0
-    ∷ 0 ∷ 0 ∷ 0 ∷ 0 ∷ 0 ∷ 0 ∷ 0 ∷ 0
-    ∷ 0 ∷ 0 ∷ 0 ∷ 0 ∷ 0 ∷ 0 ∷ 0 ∷ 0
-    ∷ 0 ∷ 0 ∷ 0 ∷ 0 ∷ 0 ∷ 0 ∷ 0 ∷ 0
-    ∷ 0 ∷ 0 ∷ 0 ∷ 0 ∷ 0 ∷ 0 ∷ 0 ∷ 0x80
-    ∷ 0 ∷ 0 ∷ 0 ∷ 0 ∷ 0 ∷ 0 ∷ 0 ∷ 0x80
-    ∷ 0 ∷ 0 ∷ 0 ∷ 0 ∷ 0 ∷ 0 ∷ 0 ∷ 0x80
-    ∷ []
-
 pub results : (κs : Lfts 3) (at : Places) →
-    Results κs at (asBytes p10Words) (sevens 105) (sevens 2) 0 (p10Bytes ++ (7 ∷ [])) (0 ∷ 104 ∷ [])
-    × Results κs at (asBytes p10Words) (sevens 103) (sevens 2) 26 (sevens 103) (26 ∷ 104 ∷ [])
+    Results κs at p10File (sevens 105) (sevens 2) 0 (p10Result ++ (7 ∷ [])) (0 ∷ 104 ∷ [])
+    × Results κs at p10File (sevens 103) (sevens 2) 26 (sevens 103) (26 ∷ 104 ∷ [])
 unfolding stateAnswer resultFile outcomeIn rowsOf rowOf requestWords readingOf put asBytes wordAt
 results κs at = ((refl, (refl, refl)), (refl, (refl, refl)))
 
