@@ -1,18 +1,19 @@
 -- Doubles whose magnitude is no more than a power of two, and what the four operations make of them. Rounding keeps the order, and the power is a double, so
 -- none of the results is infinite or a NaN.
-use Prim.Native.Nat.{ℕ, zero, suc, _+_, _-_, _*_, _^_, _≤_, _<_}
+use Prim.Native.Nat.{ℕ, _+_, _-_, _*_, _^_, _≤_, _<_}
 use mathlib.Core.Path.{_≡_, refl, sym, ap, subst, _∙_}
 use mathlib.Core.Bool.{Bool, true, false, cond, _&&_, _||_, Bool·beq, true≢false}
 use native.Mathlib.Omega.{arith}
-use native.Mathlib.Nat.{le-trans, mul-one, one-mul, mul-pos, mul-le-mul, mul-le-mul-left, mul-le-mul-right, le-of-mul-le-mul-right}
+use native.Mathlib.Nat.{le-trans, mul-one, mul-pos, mul-le-mul, mul-le-mul-left, mul-le-mul-right, le-of-mul-le-mul-right}
 use borrow.Author.Tests.{eq-eqb, ne-eqb}
 use lib.Dec.{T, ltb, eqb, ltb→lt, eqb→eq, lit<}
-use lib.Pow.{pow-add, pow-lt, pow-mono, pow-pos}
-use lib.Ieee.{Float, nan, inf, fin, Format, binary64, prec, emax, low, up, down, unlike, odd, units, round, sum, add, sub, neg, mul, div, le, eq, ne}
+use lib.Pow.{pow-add, pow-mono, pow-pos}
+use lib.Ieee.{Float, nan, inf, fin, binary64, up, down, unlike, round, sum, add, sub, neg, mul, div, le, eq, ne}
 use lib.Ieee.Fits.{down-pos}
-use lib.Ieee.Exact.{HasValue, round-exact}
+use lib.Ieee.Exact.{HasValue}
 use lib.Ieee.Order.{round-mono}
 use Rattle.bits.specs.Arithmetic.{_⊕_, _⊖_, _⊗_, _⊘_, isFinite, magnitude}
+use Rattle.series.proofs.Reduction.{magnitude-round, power}
 
 -- Finite, and at most 2 ^ j in magnitude.
 abbrev pub Within : ℕ → Float → Type 0
@@ -71,28 +72,6 @@ by-power j (fin s m e) (fin false n d) t v =
     let h : m * up e * down d ≤ n * up d * down e = le-or-eq _ _ _ t in
     let w : n * up d * down e ≡ 2 ^ j * down d * down e = ap (λ (k : ℕ). k * down e) (sym (mul-one (n * up d)) ∙ v .1) in
     le-of-mul-le-mul-right (omega arith) (down-pos d)
-
-magnitude-odd : (d : ℕ) (s : Bool) (q k l : ℕ) → magnitude (odd d s q k l) ≡ odd d false q k l
-unfolding odd
-magnitude-odd d s zero k l = refl
-magnitude-odd d s (suc q) k l = refl
-
-magnitude-cond : (b s : Bool) (d q k l : ℕ) → magnitude (cond b (odd d s q k l) (inf s)) ≡ cond b (odd d false q k l) (inf false)
-magnitude-cond true s d q k l = magnitude-odd d s q k l
-magnitude-cond false s d q k l = refl
-
-magnitude-units : (f : Format) (s : Bool) (q k : ℕ) → magnitude (units f s q k) ≡ units f false q k
-unfolding units
-magnitude-units f s q k = magnitude-cond (ltb (q * 2 ^ k) (2 ^ (low f + suc (emax f)))) s (suc (prec f)) q k (low f)
-
-magnitude-round : (f : Format) (s : Bool) (a b : ℕ) → magnitude (round f s a b) ≡ round f false a b
-unfolding round
-magnitude-round f s a b = magnitude-units f s _ _
-
-power : (j : ℕ) → j < 1024 → HasValue (round binary64 false (2 ^ j) 1) false (2 ^ j) 1
-power j h = round-exact binary64 false (2 ^ j) 1 1 (j + 1074) (lit< tt) (lit< tt)
-    (subst (λ (k : ℕ). k < 2 ^ 2098) (sym (one-mul (2 ^ (j + 1074)))) (pow-lt {j = 2098} (omega arith)))
-    (sym (mul-one (1 * 2 ^ (j + 1074)) ∙ one-mul (2 ^ (j + 1074)) ∙ pow-add 2 j 1074))
 
 rounded : (j : ℕ) (s : Bool) (a c : ℕ) → j < 1024 → 0 < c → a ≤ 2 ^ j * c → Within j (round binary64 s a c)
 rounded j s a c J C h =

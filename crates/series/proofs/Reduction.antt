@@ -67,12 +67,12 @@ magnitude-units : (f : Format) (s : Bool) (q k : ℕ) → magnitude (units f s q
 unfolding units
 magnitude-units f s q k = magnitude-cond (ltb (q * 2 ^ k) (2 ^ (low f + suc (emax f)))) s (suc (prec f)) q k (low f)
 
-magnitude-round : (f : Format) (s : Bool) (a b : ℕ) → magnitude (round f s a b) ≡ round f false a b
+pub magnitude-round : (f : Format) (s : Bool) (a b : ℕ) → magnitude (round f s a b) ≡ round f false a b
 unfolding round
 magnitude-round f s a b = magnitude-units f s _ _
 
 -- ---- one division
-power : (j : ℕ) → j < 1024 → HasValue (round binary64 false (2 ^ j) 1) false (2 ^ j) 1
+pub power : (j : ℕ) → j < 1024 → HasValue (round binary64 false (2 ^ j) 1) false (2 ^ j) 1
 power j h = round-exact binary64 false (2 ^ j) 1 1 (j + 1074) (lit< tt) (lit< tt)
     (subst (λ (k : ℕ). k < 2 ^ 2098) (sym (one-mul (2 ^ (j + 1074)))) (pow-lt {j = 2098} (omega arith)))
     (sym (mul-one (1 * 2 ^ (j + 1074)) ∙ one-mul (2 ^ (j + 1074)) ∙ pow-add 2 j 1074))
