@@ -49,7 +49,7 @@ law() {
     awk -v from="Rattle·$1·proofs.proofs.$2" '
         /^ *module / { bad = 1 }
         /^(abbrev |unfoldable )?(pub )?OneAnswer(Of)? / { bad = 1 }
-        /^use .*OneAnswer/ && !/^use Rattle.bits(·specs\.specs|\.specs)\.OneAnswer\.{OneAnswer(, OneAnswerOf)?}$/ { bad = 1 }
+        /^use .*OneAnswer/ && !/^use Rattle.bits(·specs\.specs|\.specs)\.OneAnswer\.[{]OneAnswer(, OneAnswerOf)?[}]$/ { bad = 1 }
         $1 == "use" && $3 == "as" {
             if ($4 in named) bad = 1
             named[$4] = $2
@@ -61,7 +61,7 @@ law() {
             reads = $8; sub(/\.Post$/, "", reads)
             if (kinds == again && named[kinds] == from ".Kinds" && named[reads] == from ".Reads") wanted = $2
         }
-        /^pub [^ ]+ : {M : Type 1} → OneAnswerOf M [^ ]+\.ended [^ ]+\.clauses$/ {
+        /^pub [^ ]+ : [{]M : Type 1[}] → OneAnswerOf M [^ ]+\.ended [^ ]+\.clauses$/ {
             ended = $(NF - 1); sub(/\.ended$/, "", ended)
             clauses = $NF; sub(/\.clauses$/, "", clauses)
             if (ended == clauses && named[ended] == from) wanted = $2
