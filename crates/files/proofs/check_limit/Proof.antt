@@ -7,19 +7,16 @@ use Rattle.files_sections.specs.Checks.{need}
 use Rattle.files.proofs.check_limit.Statement.{statement}
 use Rattle.files.proofs.check_limit.Tie as tie
 
-limit-requires : tie.Need-limit-requires
-limit-requires c κs = search needs
-
-cast-need : tie.Need-cast-need
-cast-need c = search needs
-
-need-requires : tie.Need-need-requires
-need-requires c κs = search needs
-
 returns : tie.Need-returns
 returns c =
     let a = c .before .before .args in
     c .need .ensures ∙ ap (λ (l : ℕ). need (leb (a .count) l) 23 (a .place)) (c .before .limit .ensures)
 
 pub check-limit-spec : {M : Type 1} → statement M
-check-limit-spec = tie.close (tie.spec limit-requires cast-need need-requires returns)
+check-limit-spec =
+    tie.close
+    (tie.spec
+    (λ c κs. search needs)
+    (λ c. search needs)
+    (λ c κs. search needs)
+    returns)

@@ -10,15 +10,6 @@ use Rattle.files.specs.Writer.{limitCheck, limitChecks}
 use Rattle.files.proofs.check_limits.Statement.{statement}
 use Rattle.files.proofs.check_limits.Tie as tie
 
-check-limit-requires : tie.Need-check-limit-requires
-check-limit-requires c κs = search needs
-
-enum-told : tie.Need-enum-told
-enum-told c = search needs
-
-enum-told-2 : tie.Need-enum-told-2
-enum-told-2 c = search needs
-
 returns : tie.Need-returns
 unfolding limitChecks
 returns c = stops _ _ _ (c .before .before .check-limit .ensures) (c .enum-told2 .given .1)
@@ -28,18 +19,6 @@ cast-c c =
     let sound = sym (c .before .before .check-limit .ensures) ∙ c .enum-told .given .1 in
     let few : c .before .before .before .args .centres ≤ 16 = leb-true _ _ (needed _ _ _ sound) in
     omega arith
-
-states-place-requires : tie.Need-states-place-requires
-states-place-requires c κs = search needs
-
-check-limit-requires-2 : tie.Need-check-limit-requires-2
-check-limit-requires-2 c κs = search needs
-
-enum-told-3 : tie.Need-enum-told-3
-enum-told-3 c = search needs
-
-enum-told-4 : tie.Need-enum-told-4
-enum-told-4 c = search needs
 
 returns-2 : tie.Need-returns-2
 unfolding limitChecks
@@ -55,12 +34,6 @@ cast-requests-place c =
     let few : c .before .before .before .before .before .before .before .args .states ≤ 500 = leb-true _ _ (needed _ _ _ sound) in
     omega arith
 
-requests-place-requires : tie.Need-requests-place-requires
-requests-place-requires c κs = search needs
-
-check-limit-requires-3 : tie.Need-check-limit-requires-3
-check-limit-requires-3 c κs = search needs
-
 returns-3 : tie.Need-returns-3
 unfolding limitChecks
 returns-3 c =
@@ -75,17 +48,17 @@ pub check-limits-spec : {M : Type 1} → statement M
 check-limits-spec =
     tie.close
     (tie.spec
-    check-limit-requires
-    enum-told
-    enum-told-2
+    (λ c κs. search needs)
+    (λ c. search needs)
+    (λ c. search needs)
     returns
     cast-c
-    states-place-requires
-    check-limit-requires-2
-    enum-told-3
-    enum-told-4
+    (λ c κs. search needs)
+    (λ c κs. search needs)
+    (λ c. search needs)
+    (λ c. search needs)
     returns-2
     cast-requests-place
-    requests-place-requires
-    check-limit-requires-3
+    (λ c κs. search needs)
+    (λ c κs. search needs)
     returns-3)

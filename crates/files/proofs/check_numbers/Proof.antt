@@ -9,45 +9,6 @@ use Rattle.files.specs.Writer.{numberCheck, numberChecks}
 use Rattle.files.proofs.check_numbers.Statement.{statement}
 use Rattle.files.proofs.check_numbers.Tie as tie
 
-records-requires : tie.Need-records-requires
-records-requires c κs = search needs
-
-cast-c : tie.Need-cast-c
-cast-c c = search needs
-
-records-requires-2 : tie.Need-records-requires-2
-records-requires-2 c κs = search needs
-
-cast-s : tie.Need-cast-s
-cast-s c = search needs
-
-check-words-requires : tie.Need-check-words-requires
-check-words-requires c κs = search needs
-
-states-place-requires : tie.Need-states-place-requires
-states-place-requires c κs = search needs
-
-cast-check-words : tie.Need-cast-check-words
-cast-check-words c = search needs
-
-check-words-requires-2 : tie.Need-check-words-requires-2
-check-words-requires-2 c κs = search needs
-
-requests-place-requires : tie.Need-requests-place-requires
-requests-place-requires c κs = search needs
-
-cast-check-words-2 : tie.Need-cast-check-words-2
-cast-check-words-2 c = search needs
-
-check-words-requires-3 : tie.Need-check-words-requires-3
-check-words-requires-3 c κs = search needs
-
-first-requires : tie.Need-first-requires
-first-requires c κs = search needs
-
-first-requires-2 : tie.Need-first-requires-2
-first-requires-2 c κs = search needs
-
 returns : tie.Need-returns
 unfolding numberChecks
 returns c =
@@ -67,17 +28,17 @@ pub check-numbers-spec : {M : Type 1} → statement M
 check-numbers-spec =
     tie.close
     (tie.spec
-    records-requires
-    cast-c
-    records-requires-2
-    cast-s
-    check-words-requires
-    cast-check-words
-    states-place-requires
-    check-words-requires-2
-    cast-check-words-2
-    requests-place-requires
-    check-words-requires-3
-    first-requires
-    first-requires-2
+    (λ c κs. search needs)
+    (λ c. search needs)
+    (λ c κs. search needs)
+    (λ c. search needs)
+    (λ c κs. search needs)
+    (λ c. search needs)
+    (λ c κs. search needs)
+    (λ c κs. search needs)
+    (λ c. search needs)
+    (λ c κs. search needs)
+    (λ c κs. search needs)
+    (λ c κs. search needs)
+    (λ c κs. search needs)
     returns)

@@ -9,19 +9,16 @@ use Rattle.files_sections.specs.Checks.{walk, rulingOf}
 use Rattle.files.proofs.check_words.Statement.{statement}
 use Rattle.files.proofs.check_words.Tie as tie
 
-add-walk-run : tie.Need-add-walk-run
-add-walk-run c = search needs
-
-rule-requires : tie.Need-rule-requires
-rule-requires c κs = search needs
-
-walk-run-requires : tie.Need-walk-run-requires
-walk-run-requires c κs = search needs
-
 returns : tie.Need-returns
 returns c =
     let a = c .before .before .before .args in
     c .walk-run .ensures ∙ ap (λ (r : Rule). walk (rulingOf r) (a .place + 8) [] (length (a .run .now)) (a .run .now)) (c .before .rule .ensures)
 
 pub check-words-spec : {M : Type 1} → statement M
-check-words-spec = tie.close (tie.spec add-walk-run rule-requires walk-run-requires returns)
+check-words-spec =
+    tie.close
+    (tie.spec
+    (λ c. search needs)
+    (λ c κs. search needs)
+    (λ c κs. search needs)
+    returns)

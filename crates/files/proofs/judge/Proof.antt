@@ -29,36 +29,9 @@ within c =
     let l = limits-sound _ _ _ (sym (limits (c .before .before)) ∙ c .enum-told3 .given .1) in
     record { few-centres = l .0; few-states = l .1; few-requests = l .2 }
 
-check-wholes-requires : tie.Need-check-wholes-requires
-check-wholes-requires c κs = search needs
-
-enum-told : tie.Need-enum-told
-enum-told c = search needs
-
-enum-told-2 : tie.Need-enum-told-2
-enum-told-2 c = search needs
-
 returns : tie.Need-returns
 unfolding writeCheck
 returns c = stops _ _ _ (c .before .before .check-wholes .ensures) (c .enum-told2 .given .1)
-
-records-requires : tie.Need-records-requires
-records-requires c κs = search needs
-
-records-requires-2 : tie.Need-records-requires-2
-records-requires-2 c κs = search needs
-
-records-requires-3 : tie.Need-records-requires-3
-records-requires-3 c κs = search needs
-
-check-limits-requires : tie.Need-check-limits-requires
-check-limits-requires c κs = search needs
-
-enum-told-3 : tie.Need-enum-told-3
-enum-told-3 c = search needs
-
-enum-told-4 : tie.Need-enum-told-4
-enum-told-4 c = search needs
 
 returns-2 : tie.Need-returns-2
 unfolding writeCheck
@@ -71,12 +44,6 @@ file-size-requires c κs = within c
 
 check-numbers-requires : tie.Need-check-numbers-requires
 check-numbers-requires c κs = within (c .before)
-
-check-room-requires : tie.Need-check-room-requires
-check-room-requires c κs = search needs
-
-first-requires : tie.Need-first-requires
-first-requires c κs = search needs
 
 returns-3 : tie.Need-returns-3
 unfolding writeCheck
@@ -94,19 +61,19 @@ pub judge-spec : {M : Type 1} → statement M
 judge-spec =
     tie.close
     (tie.spec
-    check-wholes-requires
-    enum-told
-    enum-told-2
+    (λ c κs. search needs)
+    (λ c. search needs)
+    (λ c. search needs)
     returns
-    records-requires
-    records-requires-2
-    records-requires-3
-    check-limits-requires
-    enum-told-3
-    enum-told-4
+    (λ c κs. search needs)
+    (λ c κs. search needs)
+    (λ c κs. search needs)
+    (λ c κs. search needs)
+    (λ c. search needs)
+    (λ c. search needs)
     returns-2
     file-size-requires
     check-numbers-requires
-    check-room-requires
-    first-requires
+    (λ c κs. search needs)
+    (λ c κs. search needs)
     returns-3)

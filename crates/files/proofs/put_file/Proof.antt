@@ -10,39 +10,6 @@ use Rattle.files.proofs.WriteLaws.{file-put}
 use Rattle.files.proofs.put_file.Statement.{statement}
 use Rattle.files.proofs.put_file.Tie as tie
 
-records-requires : tie.Need-records-requires
-records-requires c κs = search needs
-
-cast-c : tie.Need-cast-c
-cast-c c = search needs
-
-records-requires-2 : tie.Need-records-requires-2
-records-requires-2 c κs = search needs
-
-cast-s : tie.Need-cast-s
-cast-s c = search needs
-
-put-word-requires : tie.Need-put-word-requires
-put-word-requires c κs = search needs
-
-put-section-requires : tie.Need-put-section-requires
-put-section-requires c κs = search needs
-
-states-place-requires : tie.Need-states-place-requires
-states-place-requires c κs = search needs
-
-put-section-requires-2 : tie.Need-put-section-requires-2
-put-section-requires-2 c κs = search needs
-
-requests-place-requires : tie.Need-requests-place-requires
-requests-place-requires c κs = search needs
-
-put-section-requires-3 : tie.Need-put-section-requires-3
-put-section-requires-3 c κs = search needs
-
-same-length : tie.Need-same-length
-same-length c = search needs
-
 returns : tie.Need-returns
 returns c =
     let p3 = c .before .before in
@@ -67,15 +34,15 @@ pub put-file-spec : {M : Type 1} → statement M
 put-file-spec =
     tie.close
     (tie.spec
-    records-requires
-    cast-c
-    records-requires-2
-    cast-s
-    put-word-requires
-    put-section-requires
-    states-place-requires
-    put-section-requires-2
-    requests-place-requires
-    put-section-requires-3
-    same-length
+    (λ c κs. search needs)
+    (λ c. search needs)
+    (λ c κs. search needs)
+    (λ c. search needs)
+    (λ c κs. search needs)
+    (λ c κs. search needs)
+    (λ c κs. search needs)
+    (λ c κs. search needs)
+    (λ c κs. search needs)
+    (λ c κs. search needs)
+    (λ c. search needs)
     returns)

@@ -11,21 +11,6 @@ use Rattle.files.specs.Writer.{recordsIn}
 use Rattle.files.proofs.put_section.Statement.{statement}
 use Rattle.files.proofs.put_section.Tie as tie
 
-records-requires : tie.Need-records-requires
-records-requires c κs = search needs
-
-put-word-requires : tie.Need-put-word-requires
-put-word-requires c κs = search needs
-
-add-put-words : tie.Need-add-put-words
-add-put-words c = search needs
-
-put-words-requires : tie.Need-put-words-requires
-put-words-requires c κs = search needs
-
-same-length : tie.Need-same-length
-same-length c = search needs
-
 returns : tie.Need-returns
 returns c =
     let p = c .before .before .before .before .before .before in
@@ -40,9 +25,9 @@ pub put-section-spec : {M : Type 1} → statement M
 put-section-spec =
     tie.close
     (tie.spec
-    records-requires
-    put-word-requires
-    add-put-words
-    put-words-requires
-    same-length
+    (λ c κs. search needs)
+    (λ c κs. search needs)
+    (λ c. search needs)
+    (λ c κs. search needs)
+    (λ c. search needs)
     returns)

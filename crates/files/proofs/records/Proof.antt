@@ -7,12 +7,6 @@ use Rattle.files_sections.proofs.RecordLaws.{width-bounds}
 use Rattle.files.proofs.records.Statement.{statement}
 use Rattle.files.proofs.records.Tie as tie
 
-width-requires : tie.Need-width-requires
-width-requires c κs = search needs
-
-cast-result : tie.Need-cast-result
-cast-result c = search needs
-
 div-result : tie.Need-div-result
 div-result c = omega (arith, width-bounds (c .before .args .section), c .width .ensures)
 
@@ -20,4 +14,10 @@ returns : tie.Need-returns
 returns c = ap (λ (w : ℕ). c .before .args .words / w) (c .width .ensures)
 
 pub records-spec : {M : Type 1} → statement M
-records-spec = tie.close (tie.spec width-requires cast-result div-result returns)
+records-spec =
+    tie.close
+    (tie.spec
+    (λ c κs. search needs)
+    (λ c. search needs)
+    div-result
+    returns)

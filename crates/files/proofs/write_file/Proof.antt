@@ -15,15 +15,6 @@ accepted c =
     let a = c .before .before .before .before .before .before .before .args in
     fits (a .centres .now) (a .states .now) (a .requests .now) (length (a .room .now)) (sym (c .before .before .judge .ensures) ∙ c .enum-told .given .1)
 
-judge-requires : tie.Need-judge-requires
-judge-requires c κs = search needs
-
-enum-known-verdict : tie.Need-enum-known-verdict
-enum-known-verdict c = search needs
-
-enum-told : tie.Need-enum-told
-enum-told c = search needs
-
 put-file-requires : tie.Need-put-file-requires
 put-file-requires c κs = accepted (c .before)
 
@@ -36,9 +27,6 @@ returns c =
     let e = sym (c .before .before .before .judge .ensures) ∙ c .before .verdict .given .1 in
     (rw e, rw e)
 
-same-length : tie.Need-same-length
-same-length c = search needs
-
 returns-2 : tie.Need-returns-2
 unfolding writingOf roomOf
 returns-2 c =
@@ -49,11 +37,11 @@ pub write-file-spec : {M : Type 1} → statement M
 write-file-spec =
     tie.close
     (tie.spec
-    judge-requires
-    enum-known-verdict
-    enum-told
+    (λ c κs. search needs)
+    (λ c. search needs)
+    (λ c. search needs)
     put-file-requires
     file-size-requires
     returns
-    same-length
+    (λ c. search needs)
     returns-2)

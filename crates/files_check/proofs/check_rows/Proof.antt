@@ -4,12 +4,13 @@ use Rattle.files_check.specs.RowsFile.{rowsCheck}
 use Rattle.files_check.proofs.check_rows.Statement.{statement}
 use Rattle.files_check.proofs.check_rows.Tie as tie
 
-check-filled-requires : tie.Need-check-filled-requires
-check-filled-requires c κs = search needs
-
 returns : tie.Need-returns
 unfolding rowsCheck
 returns c = c .check-filled .ensures
 
 pub check-rows-spec : {M : Type 1} → statement M
-check-rows-spec = tie.close (tie.spec check-filled-requires returns)
+check-rows-spec =
+    tie.close
+    (tie.spec
+    (λ c κs. search needs)
+    returns)

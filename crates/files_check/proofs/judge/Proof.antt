@@ -19,26 +19,11 @@ module _ (file run : List ℕ) where
   unfolding judgedOf verdictsAfter
   by-check c e er p = (p .0 ∙ (λ i. judgedBy (e i) (er i) (length run)), p .1 ∙ (λ i. verdictsBy (e i) file (er i) run))
 
-check-rows-requires : tie.Need-check-rows-requires
-check-rows-requires c κs = search needs
-
-enum-told : tie.Need-enum-told
-enum-told c = search needs
-
-word-at-requires : tie.Need-word-at-requires
-word-at-requires c κs = search needs
-
 judge-rows-requires : tie.Need-judge-rows-requires
 judge-rows-requires c κs =
     let p = c .before .before .before .before in
     let sound = sym (p .check-rows .ensures) ∙ c .before .before .enum-told .given .1 in
     omega (arith, c .before .word-at .ensures, few-rows (p .before .before .before .args .file .now) sound)
-
-enum-known-number : tie.Need-enum-known-number
-enum-known-number c = search needs
-
-same-length : tie.Need-same-length
-same-length c = search needs
 
 returns : tie.Need-returns
 returns c =
@@ -55,11 +40,11 @@ pub judge-spec : {M : Type 1} → statement M
 judge-spec =
     tie.close
     (tie.spec
-    check-rows-requires
-    enum-told
-    word-at-requires
+    (λ c κs. search needs)
+    (λ c. search needs)
+    (λ c κs. search needs)
     judge-rows-requires
-    enum-known-number
-    same-length
+    (λ c. search needs)
+    (λ c. search needs)
     returns
     returns-2)

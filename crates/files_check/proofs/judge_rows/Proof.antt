@@ -24,11 +24,14 @@ returns c = too-short _ _ _ (c .if1 .taken)
 put-verdicts-requires : tie.Need-put-verdicts-requires
 put-verdicts-requires c κs = (c .before .before .before .before .pre, c .before .if1 .left)
 
-same-length : tie.Need-same-length
-same-length c = search needs
-
 returns-2 : tie.Need-returns-2
 returns-2 c = long-enough _ _ _ (c .before .before .before .before .if1 .left) (c .before .before .put-verdicts .ensures)
 
 pub judge-rows-spec : {M : Type 1} → statement M
-judge-rows-spec = tie.close (tie.spec returns put-verdicts-requires same-length returns-2)
+judge-rows-spec =
+    tie.close
+    (tie.spec
+    returns
+    put-verdicts-requires
+    (λ c. search needs)
+    returns-2)

@@ -17,9 +17,6 @@ judged file k e eg ea en er =
 within : (k : ℕ) {place : ℕ} → k ≤ mostRows → place ≡ rowPlace k → place ≤ rowPlace mostRows
 within k l e = omega (arith, e)
 
-row-place-requires : tie.Need-row-place-requires
-row-place-requires c κs = search needs
-
 given-at-requires : tie.Need-given-at-requires
 given-at-requires c κs = within _ (c .before .before .pre) (c .row-place .ensures)
 
@@ -28,9 +25,6 @@ field-requires c κs = (within _ (c .before .before .before .pre) (c .before .ro
 
 nine-at-requires : tie.Need-nine-at-requires
 nine-at-requires c κs = within _ (c .before .before .before .before .pre) (c .before .before .row-place .ensures)
-
-verdict-of-requires : tie.Need-verdict-of-requires
-verdict-of-requires c κs = search needs
 
 returns : tie.Need-returns
 returns c =
@@ -42,4 +36,10 @@ returns c =
 pub verdict-at-spec : {M : Type 1} → statement M
 verdict-at-spec =
     tie.close
-    (tie.spec row-place-requires given-at-requires field-requires nine-at-requires verdict-of-requires returns)
+    (tie.spec
+    (λ c κs. search needs)
+    given-at-requires
+    field-requires
+    nine-at-requires
+    (λ c κs. search needs)
+    returns)

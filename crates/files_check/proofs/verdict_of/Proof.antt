@@ -5,9 +5,6 @@ use Rattle.files_check.specs.RowsFile.{verdictOf}
 use Rattle.files_check.proofs.verdict_of.Statement.{statement}
 use Rattle.files_check.proofs.verdict_of.Tie as tie
 
-accepts-requires : tie.Need-accepts-requires
-accepts-requires c κs = search needs
-
 returns : tie.Need-returns
 unfolding verdictOf
 returns c = simp (sym (c .before .accepts .ensures) ∙ c .if1 .taken)
@@ -17,4 +14,9 @@ unfolding verdictOf
 returns-2 c = simp (sym (c .before .accepts .ensures) ∙ c .if1 .left)
 
 pub verdict-of-spec : {M : Type 1} → statement M
-verdict-of-spec = tie.close (tie.spec accepts-requires returns returns-2)
+verdict-of-spec =
+    tie.close
+    (tie.spec
+    (λ c κs. search needs)
+    returns
+    returns-2)

@@ -5,21 +5,9 @@ use Rattle.files_reader.specs.Reader.{sectionsCheck, fileCheck}
 use Rattle.files_reader.proofs.check_file.Statement.{statement}
 use Rattle.files_reader.proofs.check_file.Tie as tie
 
-check-edition-requires : tie.Need-check-edition-requires
-check-edition-requires c κs = search needs
-
-enum-told : tie.Need-enum-told
-enum-told c = search needs
-
-enum-told-2 : tie.Need-enum-told-2
-enum-told-2 c = search needs
-
 returns : tie.Need-returns
 unfolding fileCheck sectionsCheck
 returns c = stops _ _ _ (c .before .before .check-edition .ensures) (c .enum-told2 .given .1)
-
-check-sections-requires : tie.Need-check-sections-requires
-check-sections-requires c κs = search needs
 
 returns-2 : tie.Need-returns-2
 unfolding fileCheck sectionsCheck
@@ -29,9 +17,9 @@ pub check-file-spec : {M : Type 1} → statement M
 check-file-spec =
     tie.close
     (tie.spec
-    check-edition-requires
-    enum-told
-    enum-told-2
+    (λ c κs. search needs)
+    (λ c. search needs)
+    (λ c. search needs)
     returns
-    check-sections-requires
+    (λ c κs. search needs)
     returns-2)

@@ -5,18 +5,6 @@ use Rattle.files_sections.specs.Checks.{countedCheck, rulingOf}
 use Rattle.files_reader.proofs.check_section.Statement.{statement}
 use Rattle.files_reader.proofs.check_section.Tie as tie
 
-limit-requires : tie.Need-limit-requires
-limit-requires c κs = search needs
-
-width-requires : tie.Need-width-requires
-width-requires c κs = search needs
-
-rule-requires : tie.Need-rule-requires
-rule-requires c κs = search needs
-
-check-counted-requires : tie.Need-check-counted-requires
-check-counted-requires c κs = search needs
-
 returns : tie.Need-returns
 returns c =
     let a = c .before .before .before .before .before .args in
@@ -27,4 +15,10 @@ returns c =
 
 pub check-section-spec : {M : Type 1} → statement M
 check-section-spec =
-    tie.close (tie.spec limit-requires width-requires rule-requires check-counted-requires returns)
+    tie.close
+    (tie.spec
+    (λ c κs. search needs)
+    (λ c κs. search needs)
+    (λ c κs. search needs)
+    (λ c κs. search needs)
+    returns)

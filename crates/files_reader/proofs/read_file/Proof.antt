@@ -6,17 +6,8 @@ use Rattle.files_reader.specs.Reader.{readingOf}
 use Rattle.files_reader.proofs.read_file.Statement.{statement}
 use Rattle.files_reader.proofs.read_file.Tie as tie
 
-check-file-requires : tie.Need-check-file-requires
-check-file-requires c κs = search needs
-
-enum-told : tie.Need-enum-told
-enum-told c = search needs
-
 sections-of-requires : tie.Need-sections-of-requires
 sections-of-requires c κs = sym (c .before .before .check-file .ensures) ∙ c .enum-told .given .1
-
-enum-known-number : tie.Need-enum-known-number
-enum-known-number c = search needs
 
 returns : tie.Need-returns
 unfolding readingOf
@@ -32,9 +23,9 @@ pub read-file-spec : {M : Type 1} → statement M
 read-file-spec =
     tie.close
     (tie.spec
-    check-file-requires
-    enum-told
+    (λ c κs. search needs)
+    (λ c. search needs)
     sections-of-requires
-    enum-known-number
+    (λ c. search needs)
     returns
     returns-2)

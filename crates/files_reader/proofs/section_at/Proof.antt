@@ -12,14 +12,13 @@ third zero p q = absurd (p refl)
 third (suc zero) p q = absurd (q refl)
 third (suc (suc n)) p q = refl
 
-returns : tie.Need-returns
-returns c = search needs
-
-returns-2 : tie.Need-returns-2
-returns-2 c = search needs
-
 returns-3 : tie.Need-returns-3
 returns-3 c = third (c .before .args .index) (c .match .rest .0 .1) (c .match .rest .1)
 
 pub section-at-spec : {M : Type 1} → statement M
-section-at-spec = tie.close (tie.spec returns returns-2 returns-3)
+section-at-spec =
+    tie.close
+    (tie.spec
+    (λ c. search needs)
+    (λ c. search needs)
+    returns-3)

@@ -24,17 +24,8 @@ placed file {n1} {p2} {n2} {p3} {n3} e1 e2 e3 e4 e5 =
     let q5 = e5 ∙ ap (wordAt file) q4 in
     λ i. record { centres = record { place = 8; count = e1 i }; states = record { place = q2 i; count = q3 i }; requests = record { place = q4 i; count = q5 i } }
 
-word-at-requires : tie.Need-word-at-requires
-word-at-requires c κs = search needs
-
 cast-states-place : tie.Need-cast-states-place
 cast-states-place c = omega (arith, c .word-at .ensures, counts-within (c .before .before .args .file .now) (c .before .before .pre) .0)
-
-states-place-requires : tie.Need-states-place-requires
-states-place-requires c κs = search needs
-
-word-at-requires-2 : tie.Need-word-at-requires-2
-word-at-requires-2 c κs = search needs
 
 cast-requests-place : tie.Need-cast-requests-place
 cast-requests-place c =
@@ -47,12 +38,6 @@ cast-requests-place-2 c =
     let place = c .before .states-place .ensures ∙ ap statesPlace (c .before .before .word-at .ensures) in
     omega (arith, c .word-at2 .ensures ∙ ap (wordAt file) place, counts-within file (c .before .before .before .before .pre) .1)
 
-requests-place-requires : tie.Need-requests-place-requires
-requests-place-requires c κs = search needs
-
-word-at-requires-3 : tie.Need-word-at-requires-3
-word-at-requires-3 c κs = search needs
-
 returns : tie.Need-returns
 returns c =
     placed (c .before .before .before .before .before .before .args .file .now)
@@ -63,12 +48,12 @@ pub sections-of-spec : {M : Type 1} → statement M
 sections-of-spec =
     tie.close
     (tie.spec
-    word-at-requires
+    (λ c κs. search needs)
     cast-states-place
-    states-place-requires
-    word-at-requires-2
+    (λ c κs. search needs)
+    (λ c κs. search needs)
     cast-requests-place
     cast-requests-place-2
-    requests-place-requires
-    word-at-requires-3
+    (λ c κs. search needs)
+    (λ c κs. search needs)
     returns)

@@ -14,34 +14,16 @@ use Rattle.files_results.specs.Results.{rowOf}
 use Rattle.files_results.proofs.put_row.Statement.{statement}
 use Rattle.files_results.proofs.put_row.Tie as tie
 
-request-words-requires : tie.Need-request-words-requires
-request-words-requires c κs = search needs
-
-propagate-requires : tie.Need-propagate-requires
-propagate-requires c κs = search needs
-
-words-of-requires : tie.Need-words-of-requires
-words-of-requires c κs = search needs
-
 row-place-requires : tie.Need-row-place-requires
 row-place-requires c κs =
     let p = c .before .before .before .before .before .before in
     omega (arith, accepted-counts (p .args .file .now) (p .args .places) (p .pre .0), p .pre .1)
-
-array-share-prefix-words : tie.Need-array-share-prefix-words
-array-share-prefix-words c = search needs
 
 slice-aggregate-put-words : tie.Need-slice-aggregate-put-words
 unfolding answerWords figuresOf
 slice-aggregate-put-words c =
     let l : length (c .before .before .before .words-of .result) ≡ 15 = ap length (c .before .before .before .words-of .ensures) in
     simp length-take (omega (arith, l))
-
-put-words-requires : tie.Need-put-words-requires
-put-words-requires c κs = search needs
-
-same-length : tie.Need-same-length
-same-length c = search needs
 
 returns : tie.Need-returns
 unfolding rowOf
@@ -56,12 +38,12 @@ pub put-row-spec : {M : Type 1} → statement M
 put-row-spec =
     tie.close
     (tie.spec
-    request-words-requires
-    propagate-requires
-    words-of-requires
+    (λ c κs. search needs)
+    (λ c κs. search needs)
+    (λ c κs. search needs)
     row-place-requires
-    array-share-prefix-words
+    (λ c. search needs)
     slice-aggregate-put-words
-    put-words-requires
-    same-length
+    (λ c κs. search needs)
+    (λ c. search needs)
     returns)

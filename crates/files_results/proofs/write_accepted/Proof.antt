@@ -31,18 +31,6 @@ returns c =
     let a = c .before .before .before .before .args in
     too-short (asBytes (sectionsWords (a .file .now) (a .places))) _ (sized (c .before)) (c .if1 .taken)
 
-slice-aggregate-put-words : tie.Need-slice-aggregate-put-words
-slice-aggregate-put-words c = search needs
-
-put-words-requires : tie.Need-put-words-requires
-put-words-requires c κs = search needs
-
-put-rows-requires : tie.Need-put-rows-requires
-put-rows-requires c κs = search needs
-
-same-length : tie.Need-same-length
-same-length c = search needs
-
 returns-2 : tie.Need-returns-2
 returns-2 c =
     let p = c .before .before .before .before .before .before .before .before .before in
@@ -61,8 +49,8 @@ write-accepted-spec =
     (tie.spec
     row-place-requires
     returns
-    slice-aggregate-put-words
-    put-words-requires
-    put-rows-requires
-    same-length
+    (λ c. search needs)
+    (λ c κs. search needs)
+    (λ c κs. search needs)
+    (λ c. search needs)
     returns-2)

@@ -7,22 +7,10 @@ use Rattle.files_results.proofs.Rows.{too-short, long-enough}
 use Rattle.files_results.proofs.write_refused.Statement.{statement}
 use Rattle.files_results.proofs.write_refused.Tie as tie
 
-mul-size : tie.Need-mul-size
-mul-size c = search needs
-
 returns : tie.Need-returns
 returns c =
     let file = refusedFile (c .before .before .args .number) in
     too-short (asBytes file) _ (length-as-bytes file) (c .if1 .taken)
-
-slice-aggregate-put-words : tie.Need-slice-aggregate-put-words
-slice-aggregate-put-words c = search needs
-
-put-words-requires : tie.Need-put-words-requires
-put-words-requires c κs = search needs
-
-same-length : tie.Need-same-length
-same-length c = search needs
 
 returns-2 : tie.Need-returns-2
 returns-2 c =
@@ -32,4 +20,11 @@ returns-2 c =
 
 pub write-refused-spec : {M : Type 1} → statement M
 write-refused-spec =
-    tie.close (tie.spec mul-size returns slice-aggregate-put-words put-words-requires same-length returns-2)
+    tie.close
+    (tie.spec
+    (λ c. search needs)
+    returns
+    (λ c. search needs)
+    (λ c κs. search needs)
+    (λ c. search needs)
+    returns-2)

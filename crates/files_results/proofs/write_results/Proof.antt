@@ -7,23 +7,8 @@ use Rattle.files_results.specs.Results.{resultBy, resultFile, outcomeIn}
 use Rattle.files_results.proofs.write_results.Statement.{statement}
 use Rattle.files_results.proofs.write_results.Tie as tie
 
-read-file-requires : tie.Need-read-file-requires
-read-file-requires c κs = search needs
-
-enum-known-places : tie.Need-enum-known-places
-enum-known-places c = search needs
-
 write-accepted-requires : tie.Need-write-accepted-requires
 write-accepted-requires c κs = sym (c .before .before .before .before .read-file .ensures) ∙ c .before .before .places .given .1
-
-enum-known-number : tie.Need-enum-known-number
-enum-known-number c = search needs
-
-write-refused-requires : tie.Need-write-refused-requires
-write-refused-requires c κs = search needs
-
-same-length : tie.Need-same-length
-same-length c = search needs
 
 returns : tie.Need-returns
 unfolding resultFile
@@ -34,9 +19,6 @@ returns c =
       w .0 ∙ ap (λ (r : Reading). outcomeIn (asBytes (resultBy (a .file .now) r)) (a .room .now)) e,
       w .1 ∙ ap (λ (r : Reading). put (a .room .now) 0 (asBytes (resultBy (a .file .now) r))) e,
     )
-
-same-length-2 : tie.Need-same-length-2
-same-length-2 c = search needs
 
 returns-2 : tie.Need-returns-2
 unfolding resultFile
@@ -52,12 +34,12 @@ pub write-results-spec : {M : Type 1} → statement M
 write-results-spec =
     tie.close
     (tie.spec
-    read-file-requires
-    enum-known-places
+    (λ c κs. search needs)
+    (λ c. search needs)
     write-accepted-requires
-    enum-known-number
-    write-refused-requires
-    same-length
+    (λ c. search needs)
+    (λ c κs. search needs)
+    (λ c. search needs)
     returns
-    same-length-2
+    (λ c. search needs)
     returns-2)

@@ -9,22 +9,10 @@ use Rattle.files_words.proofs.PutLaws.{put-outside}
 use Rattle.files_words.proofs.put_word.Statement.{statement}
 use Rattle.files_words.proofs.put_word.Tie as tie
 
-is-whole-requires : tie.Need-is-whole-requires
-is-whole-requires c κs = search needs
-
 put-bytes-requires : tie.Need-put-bytes-requires
 put-bytes-requires c κs =
     let a = c .before .before .before .before .before .args in
     leb-true (a .place + 8) (length (a .room .now)) (sym (c .before .before .is-whole .ensures) ∙ c .before .if1 .taken)
-
-same-length : tie.Need-same-length
-same-length c = search needs
-
-returns : tie.Need-returns
-returns c = search needs
-
-same-length-2 : tie.Need-same-length-2
-same-length-2 c = search needs
 
 returns-2 : tie.Need-returns-2
 unfolding bytesOf
@@ -36,4 +24,10 @@ returns-2 c =
 pub put-word-spec : {M : Type 1} → statement M
 put-word-spec =
     tie.close
-    (tie.spec is-whole-requires put-bytes-requires same-length returns same-length-2 returns-2)
+    (tie.spec
+    (λ c κs. search needs)
+    put-bytes-requires
+    (λ c. search needs)
+    (λ c. search needs)
+    (λ c. search needs)
+    returns-2)

@@ -18,14 +18,12 @@ returns-2 c =
     let a = c .before .before .before .before .args in
     sym (put-outside (a .room .now) (asBytes (a .run .now)) (a .place) (omega (arith, length-as-bytes (a .run .now))))
 
-put-each-requires : tie.Need-put-each-requires
-put-each-requires c κs = search needs
-
-same-length : tie.Need-same-length
-same-length c = search needs
-
-returns-3 : tie.Need-returns-3
-returns-3 c = search needs
-
 pub put-words-spec : {M : Type 1} → statement M
-put-words-spec = tie.close (tie.spec returns returns-2 put-each-requires same-length returns-3)
+put-words-spec =
+    tie.close
+    (tie.spec
+    returns
+    returns-2
+    (λ c κs. search needs)
+    (λ c. search needs)
+    (λ c. search needs))

@@ -8,9 +8,6 @@ use Rattle.files_words.proofs.WordLaws.{word-whole, word-missing}
 use Rattle.files_words.proofs.word_at.Statement.{statement}
 use Rattle.files_words.proofs.word_at.Tie as tie
 
-is-whole-requires : tie.Need-is-whole-requires
-is-whole-requires c κs = search needs
-
 whole-word-requires : tie.Need-whole-word-requires
 whole-word-requires c κs =
     let a = c .before .before .before .args in
@@ -29,4 +26,10 @@ returns-2 c =
     sym (word-missing (a .file .now) (a .place) short)
 
 pub word-at-spec : {M : Type 1} → statement M
-word-at-spec = tie.close (tie.spec is-whole-requires whole-word-requires returns returns-2)
+word-at-spec =
+    tie.close
+    (tie.spec
+    (λ c κs. search needs)
+    whole-word-requires
+    returns
+    returns-2)

@@ -11,21 +11,6 @@ use Rattle.kelubashi.proofs.kelubashi1_propagate.Tie as tie
 returns : tie.Need-returns
 returns c = wrong-length 15 _ (c .if1 .taken) _ _
 
-propagate-requires : tie.Need-propagate-requires
-propagate-requires c κs = search needs
-
-words-of-requires : tie.Need-words-of-requires
-words-of-requires c κs = search needs
-
-slice-aggregate-copy-words : tie.Need-slice-aggregate-copy-words
-slice-aggregate-copy-words c = search needs
-
-copy-words-requires : tie.Need-copy-words-requires
-copy-words-requires c κs = search needs
-
-same-length : tie.Need-same-length
-same-length c = search needs
-
 returns-2 : tie.Need-returns-2
 returns-2 c =
     let w = c .before .before in
@@ -39,9 +24,9 @@ kelubashi1-propagate-spec =
     tie.close
     (tie.spec
     returns
-    propagate-requires
-    words-of-requires
-    slice-aggregate-copy-words
-    copy-words-requires
-    same-length
+    (λ c κs. search needs)
+    (λ c κs. search needs)
+    (λ c. search needs)
+    (λ c κs. search needs)
+    (λ c. search needs)
     returns-2)

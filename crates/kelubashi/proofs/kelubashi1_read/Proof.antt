@@ -10,24 +10,6 @@ use Rattle.kelubashi.proofs.kelubashi1_read.Tie as tie
 returns : tie.Need-returns
 returns c = wrong-length 8 (c .before .before .before .args .answer .now) (c .if1 .taken) _ _
 
-read-file-requires : tie.Need-read-file-requires
-read-file-requires c κs = search needs
-
-reading-words-requires : tie.Need-reading-words-requires
-reading-words-requires c κs = search needs
-
-slice-aggregate-copy-words : tie.Need-slice-aggregate-copy-words
-slice-aggregate-copy-words c = search needs
-
-copy-words-requires : tie.Need-copy-words-requires
-copy-words-requires c κs = search needs
-
-array-read-result : tie.Need-array-read-result
-array-read-result c = search needs
-
-same-length : tie.Need-same-length
-same-length c = search needs
-
 returns-2 : tie.Need-returns-2
 returns-2 c =
     let w = c .before .before in
@@ -40,10 +22,10 @@ kelubashi1-read-spec =
     tie.close
     (tie.spec
     returns
-    read-file-requires
-    reading-words-requires
-    slice-aggregate-copy-words
-    copy-words-requires
-    array-read-result
-    same-length
+    (λ c κs. search needs)
+    (λ c κs. search needs)
+    (λ c. search needs)
+    (λ c κs. search needs)
+    (λ c. search needs)
+    (λ c. search needs)
     returns-2)

@@ -13,21 +13,6 @@ returns c =
     let w = wrong-length 2 (a .answer .now) (c .if1 .taken) _ _ in
     (w .0, (w .1, left-lent 2 (a .answer .now) (c .if1 .taken) (a .room .now) _))
 
-write-results-requires : tie.Need-write-results-requires
-write-results-requires c κs = search needs
-
-slice-aggregate-copy-words : tie.Need-slice-aggregate-copy-words
-slice-aggregate-copy-words c = search needs
-
-copy-words-requires : tie.Need-copy-words-requires
-copy-words-requires c κs = search needs
-
-same-length : tie.Need-same-length
-same-length c = search needs
-
-same-length-2 : tie.Need-same-length-2
-same-length-2 c = search needs
-
 returns-2 : tie.Need-returns-2
 returns-2 c =
     let w = c .before .before in
@@ -43,9 +28,9 @@ kelubashi1-results-spec =
     tie.close
     (tie.spec
     returns
-    write-results-requires
-    slice-aggregate-copy-words
-    copy-words-requires
-    same-length
-    same-length-2
+    (λ c κs. search needs)
+    (λ c. search needs)
+    (λ c κs. search needs)
+    (λ c. search needs)
+    (λ c. search needs)
     returns-2)

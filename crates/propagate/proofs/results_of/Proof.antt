@@ -31,12 +31,6 @@ told file room now outcome l e p =
 longer : (file : List ℕ) (n : ℕ) → longestFile < length file → n ≡ length file → (rest : List ℕ) → resultFile (take n file) ≡ resultFile (file ++ rest)
 longer file n long full rest = ap resultFile (take-all n file (omega arith)) ∙ sym (cut file rest long)
 
-slice-aggregate-write-results : tie.Need-slice-aggregate-write-results
-slice-aggregate-write-results c = search needs
-
-write-results-requires : tie.Need-write-results-requires
-write-results-requires c κs = search needs
-
 returns : tie.Need-returns
 returns c =
     let start = c .before .before .before .before in
@@ -46,4 +40,9 @@ returns c =
     (t .0, (t .1, λ full rest. t .1 ∙ longer (a .file .now) (a .n) (start .pre .1) full rest))
 
 pub results-of-spec : {M : Type 1} → statement M
-results-of-spec = tie.close (tie.spec slice-aggregate-write-results write-results-requires returns)
+results-of-spec =
+    tie.close
+    (tie.spec
+    (λ c. search needs)
+    (λ c κs. search needs)
+    returns)

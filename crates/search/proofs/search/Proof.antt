@@ -38,15 +38,6 @@ returns : tie.Need-returns
 unfolding searchChoosing
 returns c = simp (c .if1 .taken)
 
-place-requires : tie.Need-place-requires
-place-requires c κs = search needs
-
-outward-requires : tie.Need-outward-requires
-outward-requires c κs = search needs
-
-enum-known-next : tie.Need-enum-known-next
-enum-known-next c = search needs
-
 inward-requires : tie.Need-inward-requires
 inward-requires c κs =
     let a = c .before .before .before .before .before .before .before .args in
@@ -56,12 +47,6 @@ inward-requires c κs =
       between-used _ _ _ (o .outward .ensures) (c .before .next .given .1),
       outward-points (trialAt (a .initial) (a .tau)) 41 (o .before .place .result) (endAt 0 (neg (a .tau .0))),
     )
-
-finding-of-requires : tie.Need-finding-of-requires
-finding-of-requires c κs = search needs
-
-finding-of-requires-2 : tie.Need-finding-of-requires-2
-finding-of-requires-2 c κs = search needs
 
 returns-2 : tie.Need-returns-2
 returns-2 c =
@@ -88,11 +73,11 @@ search-spec =
     tie.close
     (tie.spec
     returns
-    place-requires
-    outward-requires
-    enum-known-next
+    (λ c κs. search needs)
+    (λ c κs. search needs)
+    (λ c. search needs)
     inward-requires
-    finding-of-requires
-    finding-of-requires-2
+    (λ c κs. search needs)
+    (λ c κs. search needs)
     returns-2
     returns-3)

@@ -21,32 +21,17 @@ module _ (ev : Trials) (p : ℕ) (t : Trial) (e : t ≡ ev p) {s : Sort} (shown 
   unfolding passes
   as-sorted = sym (ap (passesAs ev p) sorted)
 
-try-at-requires : tie.Need-try-at-requires
-try-at-requires c κs = search needs
-
-enum-told : tie.Need-enum-told
-enum-told c = search needs
-
-enum-known-sort : tie.Need-enum-known-sort
-enum-known-sort c = search needs
-
 short-passes-requires : tie.Need-short-passes-requires
 short-passes-requires c κs =
     let a = c .before .before .before .before .args in
     let e = sorted (trialAt (a .initial) (a .tau)) (a .place) _ (c .before .before .before .try-at .ensures) (c .before .sort .given .1) in
     omega (arith, short-readable (a .initial) (a .tau) (a .place) _ e)
 
-enum-known-sort-2 : tie.Need-enum-known-sort-2
-enum-known-sort-2 c = search needs
-
 past-passes-requires : tie.Need-past-passes-requires
 past-passes-requires c κs =
     let a = c .before .before .before .before .args in
     let e = sorted (trialAt (a .initial) (a .tau)) (a .place) _ (c .before .before .before .try-at .ensures) (c .before .sort2 .given .1) in
     past-above (a .initial) (a .tau) (a .place) _ e
-
-enum-told-2 : tie.Need-enum-told-2
-enum-told-2 c = search needs
 
 returns : tie.Need-returns
 returns c = let a = c .before .before .before .args in as-sorted (trialAt (a .initial) (a .tau)) (a .place) _ (c .before .before .try-at .ensures) (c .enum-told .given .1)
@@ -70,13 +55,13 @@ pub is-anomaly-spec : {M : Type 1} → statement M
 is-anomaly-spec =
     tie.close
     (tie.spec
-    try-at-requires
-    enum-told
-    enum-known-sort
+    (λ c κs. search needs)
+    (λ c. search needs)
+    (λ c. search needs)
     short-passes-requires
-    enum-known-sort-2
+    (λ c. search needs)
     past-passes-requires
-    enum-told-2
+    (λ c. search needs)
     returns
     returns-2
     returns-3

@@ -4,12 +4,13 @@ use Rattle.search_check.specs.Passing.{picks}
 use Rattle.search_check.proofs.is_picked.Statement.{statement}
 use Rattle.search_check.proofs.is_picked.Tie as tie
 
-nearer-end-requires : tie.Need-nearer-end-requires
-nearer-end-requires c κs = search needs
-
 returns : tie.Need-returns
 unfolding picks
 returns c = simp (c .before .nearer-end .ensures)
 
 pub is-picked-spec : {M : Type 1} → statement M
-is-picked-spec = tie.close (tie.spec nearer-end-requires returns)
+is-picked-spec =
+    tie.close
+    (tie.spec
+    (λ c κs. search needs)
+    returns)

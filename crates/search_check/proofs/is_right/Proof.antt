@@ -8,12 +8,14 @@ returns : tie.Need-returns
 unfolding isRight
 returns c = simp (c .if1 .taken)
 
-is-right-beyond-zero-requires : tie.Need-is-right-beyond-zero-requires
-is-right-beyond-zero-requires c κs = search needs
-
 returns-2 : tie.Need-returns-2
 unfolding isRight
 returns-2 c = simp (c .before .if1 .left) (c .is-right-beyond-zero .ensures)
 
 pub is-right-spec : {M : Type 1} → statement M
-is-right-spec = tie.close (tie.spec returns is-right-beyond-zero-requires returns-2)
+is-right-spec =
+    tie.close
+    (tie.spec
+    returns
+    (λ c κs. search needs)
+    returns-2)

@@ -5,12 +5,6 @@ use Rattle.search_check.specs.Right.{isRightBeyondZero}
 use Rattle.search_check.proofs.is_right_beyond_zero.Statement.{statement}
 use Rattle.search_check.proofs.is_right_beyond_zero.Tie as tie
 
-has-sign-of-requires : tie.Need-has-sign-of-requires
-has-sign-of-requires c κs = search needs
-
-is-anomaly-requires : tie.Need-is-anomaly-requires
-is-anomaly-requires c κs = search needs
-
 returns : tie.Need-returns
 unfolding isRightBeyondZero
 returns c = simp (sym (c .before .before .has-sign-of .ensures) ∙ c .before .if1 .taken) (c .is-anomaly .ensures)
@@ -20,4 +14,10 @@ unfolding isRightBeyondZero
 returns-2 c = simp (sym (c .before .has-sign-of .ensures) ∙ c .if1 .left)
 
 pub is-right-beyond-zero-spec : {M : Type 1} → statement M
-is-right-beyond-zero-spec = tie.close (tie.spec has-sign-of-requires is-anomaly-requires returns returns-2)
+is-right-beyond-zero-spec =
+    tie.close
+    (tie.spec
+    (λ c κs. search needs)
+    (λ c κs. search needs)
+    returns
+    returns-2)

@@ -6,18 +6,15 @@ use Rattle.search_check.specs.Passing.{pastBeside, pastPasses}
 use Rattle.search_check.proofs.past_passes.Statement.{statement}
 use Rattle.search_check.proofs.past_passes.Tie as tie
 
-sub-try-at : tie.Need-sub-try-at
-sub-try-at c = search needs
-
-try-at-requires : tie.Need-try-at-requires
-try-at-requires c κs = search needs
-
-past-beside-requires : tie.Need-past-beside-requires
-past-beside-requires c κs = search needs
-
 returns : tie.Need-returns
 unfolding pastPasses
 returns c = c .past-beside .ensures ∙ ap (λ (t : Trial). pastBeside (c .before .before .before .args .past) (t .sort)) (c .before .try-at .ensures)
 
 pub past-passes-spec : {M : Type 1} → statement M
-past-passes-spec = tie.close (tie.spec sub-try-at try-at-requires past-beside-requires returns)
+past-passes-spec =
+    tie.close
+    (tie.spec
+    (λ c. search needs)
+    (λ c κs. search needs)
+    (λ c κs. search needs)
+    returns)

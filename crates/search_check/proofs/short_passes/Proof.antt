@@ -6,18 +6,15 @@ use Rattle.search_check.specs.Passing.{shortBeside, shortPasses}
 use Rattle.search_check.proofs.short_passes.Statement.{statement}
 use Rattle.search_check.proofs.short_passes.Tie as tie
 
-add-try-at : tie.Need-add-try-at
-add-try-at c = search needs
-
-try-at-requires : tie.Need-try-at-requires
-try-at-requires c κs = search needs
-
-short-beside-requires : tie.Need-short-beside-requires
-short-beside-requires c κs = search needs
-
 returns : tie.Need-returns
 unfolding shortPasses
 returns c = c .short-beside .ensures ∙ ap (λ (t : Trial). shortBeside (c .before .before .before .args .short) (t .sort)) (c .before .try-at .ensures)
 
 pub short-passes-spec : {M : Type 1} → statement M
-short-passes-spec = tie.close (tie.spec add-try-at try-at-requires short-beside-requires returns)
+short-passes-spec =
+    tie.close
+    (tie.spec
+    (λ c. search needs)
+    (λ c κs. search needs)
+    (λ c κs. search needs)
+    returns)

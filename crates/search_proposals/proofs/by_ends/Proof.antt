@@ -8,15 +8,6 @@ returns : tie.Need-returns
 unfolding byEnds
 returns c = simp (c .if1 .taken)
 
-anomaly-at-requires : tie.Need-anomaly-at-requires
-anomaly-at-requires c κs = search needs
-
-anomaly-at-requires-2 : tie.Need-anomaly-at-requires-2
-anomaly-at-requires-2 c κs = search needs
-
-offered-requires : tie.Need-offered-requires
-offered-requires c κs = search needs
-
 returns-2 : tie.Need-returns-2
 unfolding byEnds
 returns-2 c =
@@ -26,4 +17,9 @@ returns-2 c =
 pub by-ends-spec : {M : Type 1} → statement M
 by-ends-spec =
     tie.close
-    (tie.spec returns anomaly-at-requires anomaly-at-requires-2 offered-requires returns-2)
+    (tie.spec
+    returns
+    (λ c κs. search needs)
+    (λ c κs. search needs)
+    (λ c κs. search needs)
+    returns-2)

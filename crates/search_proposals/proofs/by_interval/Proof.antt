@@ -8,15 +8,6 @@ returns : tie.Need-returns
 unfolding byInterval
 returns c = simp (c .if1 .taken)
 
-last-tried-requires : tie.Need-last-tried-requires
-last-tried-requires c κs = search needs
-
-anomaly-at-requires : tie.Need-anomaly-at-requires
-anomaly-at-requires c κs = search needs
-
-offered-requires : tie.Need-offered-requires
-offered-requires c κs = search needs
-
 returns-2 : tie.Need-returns-2
 unfolding byInterval
 returns-2 c =
@@ -24,4 +15,11 @@ returns-2 c =
     simp (last .before .if1 .left) (simp (c .before .before .before .before .anomaly-at .ensures, last .last-tried .ensures) at (c .offered .ensures))
 
 pub by-interval-spec : {M : Type 1} → statement M
-by-interval-spec = tie.close (tie.spec returns last-tried-requires anomaly-at-requires offered-requires returns-2)
+by-interval-spec =
+    tie.close
+    (tie.spec
+    returns
+    (λ c κs. search needs)
+    (λ c κs. search needs)
+    (λ c κs. search needs)
+    returns-2)

@@ -6,17 +6,8 @@ use Rattle.search_proposals.specs.Proposals.{offeredAt}
 use Rattle.search_proposals.proofs.offered.Statement.{statement}
 use Rattle.search_proposals.proofs.offered.Tie as tie
 
-is-finite-requires : tie.Need-is-finite-requires
-is-finite-requires c κs = search needs
-
 float-to-bits-word : tie.Need-float-to-bits-word
 float-to-bits-word c = finite-no-nan _ (sym (c .before .is-finite .ensures) ∙ c .if1 .taken)
-
-has-sign-requires : tie.Need-has-sign-requires
-has-sign-requires c κs = search needs
-
-inside-requires : tie.Need-inside-requires
-inside-requires c κs = search needs
 
 returns : tie.Need-returns
 unfolding offeredAt
@@ -43,10 +34,10 @@ pub offered-spec : {M : Type 1} → statement M
 offered-spec =
     tie.close
     (tie.spec
-    is-finite-requires
+    (λ c κs. search needs)
     float-to-bits-word
-    has-sign-requires
-    inside-requires
+    (λ c κs. search needs)
+    (λ c κs. search needs)
     returns
     returns-2
     returns-3)

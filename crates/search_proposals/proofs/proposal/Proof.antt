@@ -5,15 +5,9 @@ use Rattle.search_proposals.specs.Proposals.{proposed}
 use Rattle.search_proposals.proofs.proposal.Statement.{statement}
 use Rattle.search_proposals.proofs.proposal.Tie as tie
 
-by-radius-requires : tie.Need-by-radius-requires
-by-radius-requires c κs = search needs
-
 returns : tie.Need-returns
 unfolding proposed
 returns c = simp (← (c .before .by-radius .ensures), ne-eqb _ _ (c .if1 .taken))
-
-by-interval-requires : tie.Need-by-interval-requires
-by-interval-requires c κs = search needs
 
 returns-2 : tie.Need-returns-2
 unfolding proposed
@@ -25,9 +19,6 @@ returns-2 c =
       ← (second .by-interval .ensures),
       ne-eqb _ _ (c .if2 .taken),
     )
-
-by-ends-requires : tie.Need-by-ends-requires
-by-ends-requires c κs = search needs
 
 returns-3 : tie.Need-returns-3
 unfolding proposed
@@ -44,4 +35,10 @@ returns-3 c =
 pub proposal-spec : {M : Type 1} → statement M
 proposal-spec =
     tie.close
-    (tie.spec by-radius-requires returns by-interval-requires returns-2 by-ends-requires returns-3)
+    (tie.spec
+    (λ c κs. search needs)
+    returns
+    (λ c κs. search needs)
+    returns-2
+    (λ c κs. search needs)
+    returns-3)

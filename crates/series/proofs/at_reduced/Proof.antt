@@ -4,15 +4,14 @@ use Rattle.series.specs.Series.{atReduced}
 use Rattle.series.proofs.at_reduced.Statement.{statement}
 use Rattle.series.proofs.at_reduced.Tie as tie
 
-c4-of-requires : tie.Need-c4-of-requires
-c4-of-requires c κs = search needs
-
-c5-of-requires : tie.Need-c5-of-requires
-c5-of-requires c κs = search needs
-
 returns : tie.Need-returns
 unfolding atReduced
 returns c = simp (c .before .c4-of .ensures, c .c5-of .ensures)
 
 pub at-reduced-spec : {M : Type 1} → statement M
-at-reduced-spec = tie.close (tie.spec c4-of-requires c5-of-requires returns)
+at-reduced-spec =
+    tie.close
+    (tie.spec
+    (λ c κs. search needs)
+    (λ c κs. search needs)
+    returns)

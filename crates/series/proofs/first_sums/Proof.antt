@@ -15,21 +15,6 @@ firstOf c s = record { c0 = c .c0; sums = s }
 equal : (psi : Anomaly) {c d : Coefficients} {s : Sums} → s ≡ sumsOf psi c → c ≡ d → firstOf c s ≡ firstOf d (sumsOf psi d)
 equal psi {c} e f = ap (firstOf c) e ∙ ap (λ (x : Coefficients). firstOf x (sumsOf psi x)) f
 
-first-l-requires : tie.Need-first-l-requires
-first-l-requires c κs = search needs
-
-reduce-requires : tie.Need-reduce-requires
-reduce-requires c κs = search needs
-
-at-reduced-requires : tie.Need-at-reduced-requires
-at-reduced-requires c κs = search needs
-
-restored-requires : tie.Need-restored-requires
-restored-requires c κs = search needs
-
-sums-requires : tie.Need-sums-requires
-sums-requires c κs = search needs
-
 returns : tie.Need-returns
 unfolding coefficientsOf
 returns c =
@@ -40,9 +25,9 @@ pub first-sums-spec : {M : Type 1} → statement M
 first-sums-spec =
     tie.close
     (tie.spec
-    first-l-requires
-    reduce-requires
-    at-reduced-requires
-    restored-requires
-    sums-requires
+    (λ c κs. search needs)
+    (λ c κs. search needs)
+    (λ c κs. search needs)
+    (λ c κs. search needs)
+    (λ c κs. search needs)
     returns)

@@ -8,16 +8,16 @@ use Rattle.series.proofs.restored.Tie as tie
 returns : tie.Need-returns
 returns c = simp (le-ltb 0 (c .before .args .m) (omega arith))
 
-double-requires : tie.Need-double-requires
-double-requires c κs = search needs
-
-quotients-requires : tie.Need-quotients-requires
-quotients-requires c κs = search needs
-
 returns-2 : tie.Need-returns-2
 returns-2 c =
     simp (lt-ltb 0 (c .before .before .before .args .m) (omega (arith, c .before .before .if1 .left)))
     (simp (c .before .double .ensures) at (c .quotients .ensures))
 
 pub restored-spec : {M : Type 1} → statement M
-restored-spec = tie.close (tie.spec returns double-requires quotients-requires returns-2)
+restored-spec =
+    tie.close
+    (tie.spec
+    returns
+    (λ c κs. search needs)
+    (λ c κs. search needs)
+    returns-2)

@@ -18,21 +18,6 @@ module _ (given : List ℕ) (anomaly : ℕ) (nine : List ℕ) {psi : Float} (e :
   from-here f g h =
       h ∙ ap (λ (y : Reached). acceptsFrom y anomaly nine) (sym g ∙ f ∙ ap (λ (p : Float). reachedWordsBy intervalOf (taking (record { 0 = p })) given) e)
 
-double-of-requires : tie.Need-double-of-requires
-double-of-requires c κs = search needs
-
-reach-requires : tie.Need-reach-requires
-reach-requires c κs = search needs
-
-enum-known-arc : tie.Need-enum-known-arc
-enum-known-arc c = search needs
-
-accepts-at-requires : tie.Need-accepts-at-requires
-accepts-at-requires c κs = search needs
-
-enum-told : tie.Need-enum-told
-enum-told c = search needs
-
 returns : tie.Need-returns
 returns c =
     let r = c .before .before .before .before in
@@ -47,10 +32,10 @@ pub accepts-spec : {M : Type 1} → statement M
 accepts-spec =
     tie.close
     (tie.spec
-    double-of-requires
-    reach-requires
-    enum-known-arc
-    accepts-at-requires
-    enum-told
+    (λ c κs. search needs)
+    (λ c κs. search needs)
+    (λ c. search needs)
+    (λ c κs. search needs)
+    (λ c. search needs)
     returns
     returns-2)

@@ -6,15 +6,6 @@ use Rattle.states_check.specs.Row.{endsWith, acceptsAt}
 use Rattle.states_check.proofs.accepts_at.Statement.{statement}
 use Rattle.states_check.proofs.accepts_at.Tie as tie
 
-is-right-requires : tie.Need-is-right-requires
-is-right-requires c κs = search needs
-
-ended-requires : tie.Need-ended-requires
-ended-requires c κs = search needs
-
-ends-with-requires : tie.Need-ends-with-requires
-ends-with-requires c κs = search needs
-
 returns : tie.Need-returns
 unfolding acceptsAt
 returns c =
@@ -27,4 +18,11 @@ unfolding acceptsAt
 returns-2 c = simp (sym (c .before .is-right .ensures) ∙ c .if1 .left)
 
 pub accepts-at-spec : {M : Type 1} → statement M
-accepts-at-spec = tie.close (tie.spec is-right-requires ended-requires ends-with-requires returns returns-2)
+accepts-at-spec =
+    tie.close
+    (tie.spec
+    (λ c κs. search needs)
+    (λ c κs. search needs)
+    (λ c κs. search needs)
+    returns
+    returns-2)

@@ -49,37 +49,16 @@ module _ (arc : Arc) (run : List ℕ) where
 returns : tie.Need-returns
 returns c = other-length _ _ (c .if1 .taken)
 
-matrix-divisors-requires : tie.Need-matrix-divisors-requires
-matrix-divisors-requires c κs = search needs
-
-slice-aggregate-has : tie.Need-slice-aggregate-has
-slice-aggregate-has c = search needs
-
-has-requires : tie.Need-has-requires
-has-requires c κs = search needs
-
 returns-2 : tie.Need-returns-2
 returns-2 c =
     let d = c .before .before .before in
     zero-divisor _ _ (d .before .if1 .left) _ (d .matrix-divisors .ensures) (sym (c .before .has .ensures) ∙ c .if2 .taken)
-
-u-refused-requires : tie.Need-u-refused-requires
-u-refused-requires c κs = search needs
 
 returns-3 : tie.Need-returns-3
 returns-3 c =
     let z = c .before .before in
     let d = z .before .before .before in
     whole-refused _ _ (d .before .if1 .left) _ (d .matrix-divisors .ensures) (sym (z .before .has .ensures) ∙ z .if2 .left) (sym (c .before .u-refused .ensures) ∙ c .if3 .taken)
-
-entries-requires : tie.Need-entries-requires
-entries-requires c κs = search needs
-
-slice-aggregate-has-2 : tie.Need-slice-aggregate-has-2
-slice-aggregate-has-2 c = search needs
-
-has-requires-2 : tie.Need-has-requires-2
-has-requires-2 c κs = search needs
 
 returns-4 : tie.Need-returns-4
 returns-4 c =
@@ -88,15 +67,6 @@ returns-4 c =
     let d = z .before .before .before in
     not-finite _ _ (d .before .if1 .left) _ (d .matrix-divisors .ensures) (sym (z .before .has .ensures) ∙ z .if2 .left)
     (sym (t .before .before .u-refused .ensures) ∙ t .before .if3 .left) _ (t .entries .ensures) (sym (c .before .has2 .ensures) ∙ c .if4 .taken)
-
-slice-aggregate-copy-words : tie.Need-slice-aggregate-copy-words
-slice-aggregate-copy-words c = search needs
-
-copy-words-requires : tie.Need-copy-words-requires
-copy-words-requires c κs = search needs
-
-same-length : tie.Need-same-length
-same-length c = search needs
 
 returns-5 : tie.Need-returns-5
 returns-5 c =
@@ -115,17 +85,17 @@ write-partials-spec =
     tie.close
     (tie.spec
     returns
-    matrix-divisors-requires
-    slice-aggregate-has
-    has-requires
+    (λ c κs. search needs)
+    (λ c. search needs)
+    (λ c κs. search needs)
     returns-2
-    u-refused-requires
+    (λ c κs. search needs)
     returns-3
-    entries-requires
-    slice-aggregate-has-2
-    has-requires-2
+    (λ c κs. search needs)
+    (λ c. search needs)
+    (λ c κs. search needs)
     returns-4
-    slice-aggregate-copy-words
-    copy-words-requires
-    same-length
+    (λ c. search needs)
+    (λ c κs. search needs)
+    (λ c. search needs)
     returns-5)

@@ -6,20 +6,11 @@ use Rattle.bits.proofs.Nearest.{shifted-small, packed, q-le}
 use Rattle.bits.proofs.root.packed_root.Statement.{statement}
 use Rattle.bits.proofs.root.packed_root.Tie as tie
 
-add-root-digits : tie.Need-add-root-digits
-add-root-digits c = search needs
-
 mul-root-digits : tie.Need-mul-root-digits
 mul-root-digits c = omega (arith, shifted-small (c .args .m) (c .args .e) (c .pre .0) (c .pre .1))
 
 root-digits-requires : tie.Need-root-digits-requires
 root-digits-requires c κs = omega (arith, shifted-small (c .args .m) (c .args .e) (c .pre .0) (c .pre .1))
-
-add-result : tie.Need-add-result
-add-result c = search needs
-
-mul-result : tie.Need-mul-result
-mul-result c = search needs
 
 bound : (c : tie.After-root-digits) → c .root-digits .result ≤ 2 ^ 54 - 2
 bound c =
@@ -40,11 +31,11 @@ pub packed-root-spec : {M : Type 1} → statement M
 packed-root-spec =
     tie.close
     (tie.spec
-    add-root-digits
+    (λ c. search needs)
     mul-root-digits
     root-digits-requires
-    add-result
-    mul-result
+    (λ c. search needs)
+    (λ c. search needs)
     add-result-2
     add-result-3
     returns)

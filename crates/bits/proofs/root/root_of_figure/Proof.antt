@@ -18,9 +18,6 @@ returns c = root-of-nan _ (differs-from-itself _ (subst T (sym (c .if1 .taken)) 
 float-to-bits-root-of : tie.Need-float-to-bits-root-of
 float-to-bits-root-of c = no-nan _ (c .if1 .left)
 
-root-of-requires : tie.Need-root-of-requires
-root-of-requires c κs = search needs
-
 float-from-bits-t6 : tie.Need-float-from-bits-t6
 float-from-bits-t6 c = no-nan-bits _ (omega (arith, word-bounded _ _ _ (c .root-of .ensures)))
 
@@ -33,4 +30,9 @@ returns-2 c =
 pub root-of-figure-spec : {M : Type 1} → statement M
 root-of-figure-spec =
     tie.close
-    (tie.spec returns float-to-bits-root-of root-of-requires float-from-bits-t6 returns-2)
+    (tie.spec
+    returns
+    float-to-bits-root-of
+    (λ c κs. search needs)
+    float-from-bits-t6
+    returns-2)

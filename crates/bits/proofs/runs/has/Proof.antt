@@ -4,12 +4,13 @@ use Rattle.bits.specs.Runs.{has}
 use Rattle.bits.proofs.runs.has.Statement.{statement}
 use Rattle.bits.proofs.runs.has.Tie as tie
 
-first-of-requires : tie.Need-first-of-requires
-first-of-requires c κs = search needs
-
 returns : tie.Need-returns
 unfolding has
 returns c = simp (c .first-of .ensures)
 
 pub has-spec : {M : Type 1} → statement M
-has-spec = tie.close (tie.spec first-of-requires returns)
+has-spec =
+    tie.close
+    (tie.spec
+    (λ c κs. search needs)
+    returns)

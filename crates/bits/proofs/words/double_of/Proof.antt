@@ -31,8 +31,10 @@ returns c = quotient ∙ nan-word (c .before .args .word) (c .if1 .taken)
 float-from-bits-result : tie.Need-float-from-bits-result
 float-from-bits-result c = no-nan-word (c .before .args .word) (c .if1 .left)
 
-returns-2 : tie.Need-returns-2
-returns-2 c = search needs
-
 pub double-of-spec : {M : Type 1} → statement M
-double-of-spec = tie.close (tie.spec returns float-from-bits-result returns-2)
+double-of-spec =
+    tie.close
+    (tie.spec
+    returns
+    float-from-bits-result
+    (λ c. search needs))

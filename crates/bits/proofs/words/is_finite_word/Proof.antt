@@ -33,18 +33,6 @@ by-field n = go (eqb n 0) (leb n 2046) (λ e. le-leb n 2046 (omega (arith, eqb-t
 by-kind : (w : ℕ) (k : Kind) → k ≡ kindOf w → finite-kind k ≡ isFinite (ofBits binary64 w)
 by-kind w k e = ap finite-kind e ∙ by-field (fieldOf w) ∙ sym (finite-by-field w)
 
-kind-of-requires : tie.Need-kind-of-requires
-kind-of-requires c κs = search needs
-
-enum-told : tie.Need-enum-told
-enum-told c = search needs
-
-enum-told-2 : tie.Need-enum-told-2
-enum-told-2 c = search needs
-
-enum-told-3 : tie.Need-enum-told-3
-enum-told-3 c = search needs
-
 returns : tie.Need-returns
 unfolding finite-kind
 returns c = by-kind _ ZeroOrSubnormal (sym (c .enum-told .given .1) ∙ c .before .before .kind-of .ensures)
@@ -60,4 +48,11 @@ returns-3 c = by-kind _ NotFinite (sym (c .enum-told3 .given .1) ∙ c .before .
 pub is-finite-word-spec : {M : Type 1} → statement M
 is-finite-word-spec =
     tie.close
-    (tie.spec kind-of-requires enum-told enum-told-2 enum-told-3 returns returns-2 returns-3)
+    (tie.spec
+    (λ c κs. search needs)
+    (λ c. search needs)
+    (λ c. search needs)
+    (λ c. search needs)
+    returns
+    returns-2
+    returns-3)

@@ -18,8 +18,10 @@ returns c = of-nan _ (differs-from-itself _ (subst T (sym (c .if1 .taken)) tt))
 float-to-bits-result : tie.Need-float-to-bits-result
 float-to-bits-result c = no-nan _ (c .if1 .left)
 
-returns-2 : tie.Need-returns-2
-returns-2 c = search needs
-
 pub word-of-spec : {M : Type 1} → statement M
-word-of-spec = tie.close (tie.spec returns float-to-bits-result returns-2)
+word-of-spec =
+    tie.close
+    (tie.spec
+    returns
+    float-to-bits-result
+    (λ c. search needs))

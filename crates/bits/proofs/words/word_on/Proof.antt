@@ -9,12 +9,6 @@ use Rattle.bits.specs.Words.{minusZero}
 use Rattle.bits.proofs.words.word_on.Statement.{statement}
 use Rattle.bits.proofs.words.word_on.Tie as tie
 
-sub-result : tie.Need-sub-result
-sub-result c = search needs
-
-add-result : tie.Need-add-result
-add-result c = search needs
-
 returns : tie.Need-returns
 returns c =
     let p = c .before .args .place in
@@ -26,4 +20,10 @@ returns-2 c =
     ap (λ (b : Bool). pick b (minusZero + (minusZero - p) % minusZero) (p - minusZero)) (sym (le-ltb p minusZero (c .if1 .left)))
 
 pub word-on-spec : {M : Type 1} → statement M
-word-on-spec = tie.close (tie.spec sub-result add-result returns returns-2)
+word-on-spec =
+    tie.close
+    (tie.spec
+    (λ c. search needs)
+    (λ c. search needs)
+    returns
+    returns-2)

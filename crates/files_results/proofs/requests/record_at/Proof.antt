@@ -10,15 +10,6 @@ use Rattle.files_results.proofs.Beyond.{not-beyond, beyond, record-fits
 use Rattle.files_results.proofs.requests.record_at.Statement.{statement}
 use Rattle.files_results.proofs.requests.record_at.Tie as tie
 
-width-requires : tie.Need-width-requires
-width-requires c κs = search needs
-
-cast-width : tie.Need-cast-width
-cast-width c = search needs
-
-add-result : tie.Need-add-result
-add-result c = search needs
-
 returns : tie.Need-returns
 returns c =
     let a = c .before .before .args in
@@ -36,9 +27,6 @@ mul-if2 c = omega (arith, bounds (c .before))
 div-if2 : tie.Need-div-if2
 div-if2 c = omega (arith, bounds (c .before))
 
-add-result-2 : tie.Need-add-result-2
-add-result-2 c = search needs
-
 -- the place by the width that was asked for is the place by the section
 by-section : (c : tie.After-width) →
     let a = c .before .args in
@@ -55,9 +43,6 @@ returns-2 c =
     beyond (a .size + 8) (a .place + 8 + 8 * (a .i * width))
     (omega (arith, record-beyond (a .size - a .place) (a .i) width (bounds w .0) (c .if2 .taken)))
     ∙ by-section w
-
-add-result-3 : tie.Need-add-result-3
-add-result-3 c = search needs
 
 few : (c : tie.Else2) →
     let a = c .before .before .before .args in
@@ -86,15 +71,15 @@ pub record-at-spec : {M : Type 1} → statement M
 record-at-spec =
     tie.close
     (tie.spec
-    width-requires
-    cast-width
-    add-result
+    (λ c κs. search needs)
+    (λ c. search needs)
+    (λ c. search needs)
     returns
     mul-if2
     div-if2
-    add-result-2
+    (λ c. search needs)
     returns-2
-    add-result-3
+    (λ c. search needs)
     mul-result
     mul-result-2
     add-result-4

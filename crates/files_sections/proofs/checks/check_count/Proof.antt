@@ -8,21 +8,6 @@ use Rattle.files_sections.specs.Checks.{need, _⟫_, countCheck}
 use Rattle.files_sections.proofs.checks.check_count.Statement.{statement}
 use Rattle.files_sections.proofs.checks.check_count.Tie as tie
 
-is-whole-requires : tie.Need-is-whole-requires
-is-whole-requires c κs = search needs
-
-need-requires : tie.Need-need-requires
-need-requires c κs = search needs
-
-word-at-requires : tie.Need-word-at-requires
-word-at-requires c κs = search needs
-
-need-requires-2 : tie.Need-need-requires-2
-need-requires-2 c κs = search needs
-
-first-requires : tie.Need-first-requires
-first-requires c κs = search needs
-
 returns : tie.Need-returns
 unfolding countCheck
 returns c =
@@ -35,9 +20,9 @@ pub check-count-spec : {M : Type 1} → statement M
 check-count-spec =
     tie.close
     (tie.spec
-    is-whole-requires
-    need-requires
-    word-at-requires
-    need-requires-2
-    first-requires
+    (λ c κs. search needs)
+    (λ c κs. search needs)
+    (λ c κs. search needs)
+    (λ c κs. search needs)
+    (λ c κs. search needs)
     returns)

@@ -12,21 +12,9 @@ use Rattle.files_sections.proofs.CountedLaws.{few-words}
 use Rattle.files_sections.proofs.checks.check_counted.Statement.{statement}
 use Rattle.files_sections.proofs.checks.check_counted.Tie as tie
 
-check-count-requires : tie.Need-check-count-requires
-check-count-requires c κs = search needs
-
-enum-told : tie.Need-enum-told
-enum-told c = search needs
-
-enum-told-2 : tie.Need-enum-told-2
-enum-told-2 c = search needs
-
 returns : tie.Need-returns
 unfolding countedCheck
 returns c = stops _ _ _ (c .before .before .check-count .ensures) (c .enum-told2 .given .1)
-
-word-at-requires : tie.Need-word-at-requires
-word-at-requires c κs = search needs
 
 -- the count word is whole, and the words are few
 counted : (c : tie.After-word-at) →
@@ -59,11 +47,11 @@ pub check-counted-spec : {M : Type 1} → statement M
 check-counted-spec =
     tie.close
     (tie.spec
-    check-count-requires
-    enum-told
-    enum-told-2
+    (λ c κs. search needs)
+    (λ c. search needs)
+    (λ c. search needs)
     returns
-    word-at-requires
+    (λ c κs. search needs)
     mul-words
     add-walk-words
     walk-words-requires

@@ -23,9 +23,6 @@ module _ (below j word : ℕ) where
 returns : tie.Need-returns
 returns c = rw (c .if1 .taken)
 
-rem-if2 : tie.Need-rem-if2
-rem-if2 c = search needs
-
 returns-2 : tie.Need-returns-2
 returns-2 c =
     let a = c .before .before .args in
@@ -42,4 +39,11 @@ returns-4 c =
     number-out (a .below) (a .j) (a .word) (a .width) (c .before .before .if1 .left) (c .before .if2 .left) (c .if3 .left)
 
 pub number-fault-spec : {M : Type 1} → statement M
-number-fault-spec = tie.close (tie.spec returns rem-if2 returns-2 returns-3 returns-4)
+number-fault-spec =
+    tie.close
+    (tie.spec
+    returns
+    (λ c. search needs)
+    returns-2
+    returns-3
+    returns-4)

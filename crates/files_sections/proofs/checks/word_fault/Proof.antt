@@ -8,15 +8,6 @@ use Rattle.files_sections.specs.Checks.{faultOf}
 use Rattle.files_sections.proofs.checks.word_fault.Statement.{statement}
 use Rattle.files_sections.proofs.checks.word_fault.Tie as tie
 
-is-whole-requires : tie.Need-is-whole-requires
-is-whole-requires c κs = search needs
-
-word-at-requires : tie.Need-word-at-requires
-word-at-requires c κs = search needs
-
-fault-requires : tie.Need-fault-requires
-fault-requires c κs = search needs
-
 returns : tie.Need-returns
 returns c =
     let a = c .before .before .before .before .before .args in
@@ -32,4 +23,10 @@ returns-2 c =
 
 pub word-fault-spec : {M : Type 1} → statement M
 word-fault-spec =
-    tie.close (tie.spec is-whole-requires word-at-requires fault-requires returns returns-2)
+    tie.close
+    (tie.spec
+    (λ c κs. search needs)
+    (λ c κs. search needs)
+    (λ c κs. search needs)
+    returns
+    returns-2)

@@ -8,12 +8,6 @@ use Rattle.files_summary.proofs.ChangeLaws.{append-refused, append-made
 use Rattle.files_summary.proofs.changes.append_state.Statement.{statement}
 use Rattle.files_summary.proofs.changes.append_state.Tie as tie
 
-append-refusal-requires : tie.Need-append-refusal-requires
-append-refusal-requires c κs = search needs
-
-refused-requires : tie.Need-refused-requires
-refused-requires c κs = search needs
-
 returns : tie.Need-returns
 returns c =
     let judged = c .before .before in
@@ -40,9 +34,6 @@ changed-requires c κs =
     let g = good (c .before .before .before .before .before .before) in
     (omega (arith, g .not-full), omega (arith, g .lent .whole, g .not-full, c .before .before .before .states .given))
 
-same-length : tie.Need-same-length
-same-length c = search needs
-
 returns-2 : tie.Need-returns-2
 returns-2 c =
     let put = c .before .before .before .before .before in
@@ -54,12 +45,12 @@ pub append-state-spec : {M : Type 1} → statement M
 append-state-spec =
     tie.close
     (tie.spec
-    append-refusal-requires
-    refused-requires
+    (λ c κs. search needs)
+    (λ c κs. search needs)
     returns
     put-record-requires
     add-changed
     shared-slice-read-changed
     changed-requires
-    same-length
+    (λ c. search needs)
     returns-2)

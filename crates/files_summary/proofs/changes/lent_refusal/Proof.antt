@@ -9,27 +9,6 @@ use Rattle.files_summary.specs.Changes.{refuse}
 use Rattle.files_summary.proofs.changes.lent_refusal.Statement.{statement}
 use Rattle.files_summary.proofs.changes.lent_refusal.Tie as tie
 
-cast-whole : tie.Need-cast-whole
-cast-whole c = search needs
-
-cast-whole-2 : tie.Need-cast-whole-2
-cast-whole-2 c = search needs
-
-mul-whole : tie.Need-mul-whole
-mul-whole c = search needs
-
-cast-few : tie.Need-cast-few
-cast-few c = search needs
-
-refuse-requires : tie.Need-refuse-requires
-refuse-requires c κs = search needs
-
-refuse-requires-2 : tie.Need-refuse-requires-2
-refuse-requires-2 c κs = search needs
-
-refuse-requires-3 : tie.Need-refuse-requires-3
-refuse-requires-3 c κs = search needs
-
 returns : tie.Need-returns
 returns c =
     let a = c .before .before .before .args in
@@ -41,11 +20,11 @@ pub lent-refusal-spec : {M : Type 1} → statement M
 lent-refusal-spec =
     tie.close
     (tie.spec
-    cast-whole
-    cast-whole-2
-    mul-whole
-    cast-few
-    refuse-requires
-    refuse-requires-2
-    refuse-requires-3
+    (λ c. search needs)
+    (λ c. search needs)
+    (λ c. search needs)
+    (λ c. search needs)
+    (λ c κs. search needs)
+    (λ c κs. search needs)
+    (λ c κs. search needs)
     returns)

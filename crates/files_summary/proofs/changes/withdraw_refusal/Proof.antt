@@ -12,9 +12,6 @@ use Rattle.files_summary.proofs.RefusalLaws.{Lent, lent-well, withdraw-
 use Rattle.files_summary.proofs.changes.withdraw_refusal.Statement.{statement}
 use Rattle.files_summary.proofs.changes.withdraw_refusal.Tie as tie
 
-lent-refusal-requires : tie.Need-lent-refusal-requires
-lent-refusal-requires c κs = search needs
-
 returns : tie.Need-returns
 returns c =
     let lent = c .before in
@@ -35,9 +32,6 @@ returns-2 c =
 centre-at-requires : tie.Need-centre-at-requires
 centre-at-requires c κs = let g = good (c .before) in omega (arith, c .if2 .left, g .few, g .whole)
 
-refuse-requires : tie.Need-refuse-requires
-refuse-requires c κs = search needs
-
 returns-3 : tie.Need-returns-3
 returns-3 c =
     let read = c .before in
@@ -51,9 +45,9 @@ pub withdraw-refusal-spec : {M : Type 1} → statement M
 withdraw-refusal-spec =
     tie.close
     (tie.spec
-    lent-refusal-requires
+    (λ c κs. search needs)
     returns
     returns-2
     centre-at-requires
-    refuse-requires
+    (λ c κs. search needs)
     returns-3)

@@ -7,15 +7,6 @@ use Rattle.files_summary.proofs.ChangeLaws.{withdraw-refused, withdraw-
 use Rattle.files_summary.proofs.changes.withdraw_state.Statement.{statement}
 use Rattle.files_summary.proofs.changes.withdraw_state.Tie as tie
 
-withdraw-refusal-requires : tie.Need-withdraw-refusal-requires
-withdraw-refusal-requires c κs = search needs
-
-refused-requires : tie.Need-refused-requires
-refused-requires c κs = search needs
-
-same-length : tie.Need-same-length
-same-length c = search needs
-
 returns : tie.Need-returns
 returns c =
     let judged = c .before .before in
@@ -42,9 +33,6 @@ changed-requires c κs =
     let g = good (c .before .before .before .before .before .before .before) in
     (omega (arith, g .lent .few), omega (arith, g .lent .whole, g .lent .few, c .before .before .states .given))
 
-same-length-2 : tie.Need-same-length-2
-same-length-2 c = search needs
-
 returns-2 : tie.Need-returns-2
 returns-2 c =
     let moved = c .before .before .before .before in
@@ -59,13 +47,13 @@ pub withdraw-state-spec : {M : Type 1} → statement M
 withdraw-state-spec =
     tie.close
     (tie.spec
-    withdraw-refusal-requires
-    refused-requires
-    same-length
+    (λ c κs. search needs)
+    (λ c κs. search needs)
+    (λ c. search needs)
     returns
     centre-at-requires
     move-down-requires
     sub-changed
     changed-requires
-    same-length-2
+    (λ c. search needs)
     returns-2)

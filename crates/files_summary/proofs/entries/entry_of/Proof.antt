@@ -6,16 +6,15 @@ use Rattle.files_summary.proofs.EntryLaws.{shown-gathered}
 use Rattle.files_summary.proofs.entries.entry_of.Statement.{statement}
 use Rattle.files_summary.proofs.entries.entry_of.Tie as tie
 
-gather-requires : tie.Need-gather-requires
-gather-requires c κs = search needs
-
-shown-requires : tie.Need-shown-requires
-shown-requires c κs = search needs
-
 returns : tie.Need-returns
 returns c =
     let a = c .before .before .before .args in
     c .shown .ensures ∙ ap shown (c .before .gather .ensures) ∙ shown-gathered (a .centre) (inUse (a .states .now) (a .count))
 
 pub entry-of-spec : {M : Type 1} → statement M
-entry-of-spec = tie.close (tie.spec gather-requires shown-requires returns)
+entry-of-spec =
+    tie.close
+    (tie.spec
+    (λ c κs. search needs)
+    (λ c κs. search needs)
+    returns)

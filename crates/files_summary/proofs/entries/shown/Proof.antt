@@ -22,16 +22,16 @@ by-count t b e = sym (ap (λ (x : Bool). pick x (entry t 0 0 0) (entry t (t .sta
 returns : tie.Need-returns
 returns c = let t = c .before .before .args .tally in by-count t true (eq-eqb (t .states) 0 (c .if1 .taken))
 
-word-on-requires : tie.Need-word-on-requires
-word-on-requires c κs = search needs
-
-word-on-requires-2 : tie.Need-word-on-requires-2
-word-on-requires-2 c κs = search needs
-
 returns-2 : tie.Need-returns-2
 returns-2 c =
     let t = c .before .before .before .before .args .tally in
     (λ i. entry t (t .states) (c .before .word-on .ensures i) (c .word-on2 .ensures i)) ∙ by-count t false (ne-eqb (t .states) 0 (c .before .before .if1 .left))
 
 pub shown-spec : {M : Type 1} → statement M
-shown-spec = tie.close (tie.spec returns word-on-requires word-on-requires-2 returns-2)
+shown-spec =
+    tie.close
+    (tie.spec
+    returns
+    (λ c κs. search needs)
+    (λ c κs. search needs)
+    returns-2)

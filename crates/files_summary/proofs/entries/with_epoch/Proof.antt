@@ -10,12 +10,6 @@ use Rattle.files_summary.specs.Entries.{earlier, later, withNan, withPla
 use Rattle.files_summary.proofs.entries.with_epoch.Statement.{statement}
 use Rattle.files_summary.proofs.entries.with_epoch.Tie as tie
 
-is-nan-word-requires : tie.Need-is-nan-word-requires
-is-nan-word-requires c κs = search needs
-
-add-t5 : tie.Need-add-t5
-add-t5 c = search needs
-
 -- What the test says of the epoch, and what is then gathered.
 told : (t : Tally) (e : ℕ) (b : Bool) → b ≡ isNanWord e → pick b (withNan t) (withPlace t (lineOf e)) ≡ withEpoch t e
 told t e b h = ap (λ (x : Bool). pick x (withNan t) (withPlace t (lineOf e))) h
@@ -31,18 +25,6 @@ returns c =
     let a = nan .before .args in
     told (a .tally) (a .epoch) true (sym (c .before .if1 .taken) ∙ nan .is-nan-word .ensures)
 
-line-of-requires : tie.Need-line-of-requires
-line-of-requires c κs = search needs
-
-add-t6 : tie.Need-add-t6
-add-t6 c = search needs
-
-earlier-requires : tie.Need-earlier-requires
-earlier-requires c κs = search needs
-
-later-requires : tie.Need-later-requires
-later-requires c κs = search needs
-
 returns-2 : tie.Need-returns-2
 returns-2 c =
     let line = c .before .before .before in
@@ -55,11 +37,11 @@ pub with-epoch-spec : {M : Type 1} → statement M
 with-epoch-spec =
     tie.close
     (tie.spec
-    is-nan-word-requires
-    add-t5
+    (λ c κs. search needs)
+    (λ c. search needs)
     returns
-    line-of-requires
-    add-t6
-    earlier-requires
-    later-requires
+    (λ c κs. search needs)
+    (λ c. search needs)
+    (λ c κs. search needs)
+    (λ c κs. search needs)
     returns-2)

@@ -13,13 +13,15 @@ returns c =
     let a = c .before .args in
     sym (ap (λ (t : Bool). pick t (withEpoch (a .tally) (a .epoch)) (a .tally)) (ne-eqb (a .its) (a .centre) (c .if1 .taken)))
 
-with-epoch-requires : tie.Need-with-epoch-requires
-with-epoch-requires c κs = search needs
-
 returns-2 : tie.Need-returns-2
 returns-2 c =
     let a = c .before .before .args in
     c .with-epoch .ensures ∙ sym (ap (λ (t : Bool). pick t (withEpoch (a .tally) (a .epoch)) (a .tally)) (eq-eqb (a .its) (a .centre) (c .before .if1 .left)))
 
 pub with-state-spec : {M : Type 1} → statement M
-with-state-spec = tie.close (tie.spec returns with-epoch-requires returns-2)
+with-state-spec =
+    tie.close
+    (tie.spec
+    returns
+    (λ c κs. search needs)
+    returns-2)

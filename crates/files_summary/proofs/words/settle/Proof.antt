@@ -12,9 +12,6 @@ use Rattle.files_summary.proofs.words.settle.Tie as tie
 put-entry-requires : tie.Need-put-entry-requires
 put-entry-requires c κs = c .before .before .before .before .pre (c .before .if1 .taken)
 
-same-length : tie.Need-same-length
-same-length c = search needs
-
 returns : tie.Need-returns
 returns c =
     let put-it = c .before .before in
@@ -28,4 +25,10 @@ returns-2 c =
     if-refused (a .change .number) (a .list .now) (put (a .list .now) (a .change .at * entryWidth) (entryWords (a .change .entry))) (c .if1 .left)
 
 pub settle-spec : {M : Type 1} → statement M
-settle-spec = tie.close (tie.spec put-entry-requires same-length returns returns-2)
+settle-spec =
+    tie.close
+    (tie.spec
+    put-entry-requires
+    (λ c. search needs)
+    returns
+    returns-2)

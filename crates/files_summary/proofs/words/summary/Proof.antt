@@ -14,12 +14,6 @@ use Rattle.files_summary.proofs.ChangeLaws.{if-refused, if-made}
 use Rattle.files_summary.proofs.words.summary.Statement.{statement}
 use Rattle.files_summary.proofs.words.summary.Tie as tie
 
-one-each-requires : tie.Need-one-each-requires
-one-each-requires c κs = search needs
-
-lent-refusal-requires : tie.Need-lent-refusal-requires
-lent-refusal-requires c κs = search needs
-
 put-entries-requires : tie.Need-put-entries-requires
 put-entries-requires c κs =
     let judged = c .before .before in
@@ -27,9 +21,6 @@ put-entries-requires c κs =
     let a = one .before .before .before .args in
     let lent = lent-well (length (a .states .now)) (a .count) (one .one-each .result) 0 (sym (judged .lent-refusal .ensures) ∙ c .before .if1 .taken) .0 in
     ((lent .few, omega (arith, lent .whole, lent .few)), eqb-true (length (a .list .now)) (a .centres * entryWidth) (sym (one .one-each .ensures) ∙ lent .is-listed))
-
-same-length : tie.Need-same-length
-same-length c = search needs
 
 -- What the two ways out show of a list, by the number.
 module _ (run : List ℕ) (count centres : ℕ) (list : List ℕ) {number : ℕ} (e : number ≡ summaryRefusal run count centres list) where
@@ -61,4 +52,11 @@ returns-2 c =
 
 pub summary-spec : {M : Type 1} → statement M
 summary-spec =
-    tie.close (tie.spec one-each-requires lent-refusal-requires put-entries-requires same-length returns returns-2)
+    tie.close
+    (tie.spec
+    (λ c κs. search needs)
+    (λ c κs. search needs)
+    put-entries-requires
+    (λ c. search needs)
+    returns
+    returns-2)

@@ -7,12 +7,6 @@ use Rattle.files_summary.proofs.ChangeLaws.{within-withdraw, has-place}
 use Rattle.files_summary.proofs.words.withdraw.Statement.{statement}
 use Rattle.files_summary.proofs.words.withdraw.Tie as tie
 
-one-each-requires : tie.Need-one-each-requires
-one-each-requires c κs = search needs
-
-withdraw-state-requires : tie.Need-withdraw-state-requires
-withdraw-state-requires c κs = search needs
-
 settle-requires : tie.Need-settle-requires
 settle-requires c κs =
     let made = c .before .before .before in
@@ -21,12 +15,6 @@ settle-requires c κs =
     let listed = one .one-each .result in
     has-place entryWidth (length (a .list .now)) (a .centres) (one .one-each .ensures) (withdrawOf (a .which) (a .states .now) (a .count) (a .centres) listed)
     (within-withdraw (a .which) (a .states .now) (a .count) (a .centres) listed) (made .withdraw-state .ensures .0)
-
-same-length : tie.Need-same-length
-same-length c = search needs
-
-same-length-2 : tie.Need-same-length-2
-same-length-2 c = search needs
 
 returns : tie.Need-returns
 returns c =
@@ -41,4 +29,11 @@ returns c =
 
 pub withdraw-spec : {M : Type 1} → statement M
 withdraw-spec =
-    tie.close (tie.spec one-each-requires withdraw-state-requires settle-requires same-length same-length-2 returns)
+    tie.close
+    (tie.spec
+    (λ c κs. search needs)
+    (λ c κs. search needs)
+    settle-requires
+    (λ c. search needs)
+    (λ c. search needs)
+    returns)

@@ -39,16 +39,10 @@ module _ (v w : ℕ) where
   one-side (inr p) (inl q) e = absurd (omega (arith, p .0, q .0))
   one-side (inr p) (inr q) e = omega (arith, p .1, q .1)
 
-add-result : tie.Need-add-result
-add-result c = search needs
-
 returns : tie.Need-returns
 returns c =
     let p = c .before in
     two-sides (p .args .v) (p .args .w) (side _ (omega (arith, p .fits .v))) (side _ (omega (arith, p .fits .w))) (c .if1 .taken)
-
-sub-result : tie.Need-sub-result
-sub-result c = search needs
 
 -- The two steps on one side, of which one is 0.
 apart : (c : tie.Else1) →
@@ -65,4 +59,11 @@ returns-3 : tie.Need-returns-3
 returns-3 c = omega (arith, apart (c .before), c .if2 .left)
 
 pub distance-of-spec : {M : Type 1} → statement M
-distance-of-spec = tie.close (tie.spec add-result returns sub-result returns-2 returns-3)
+distance-of-spec =
+    tie.close
+    (tie.spec
+    (λ c. search needs)
+    returns
+    (λ c. search needs)
+    returns-2
+    returns-3)

@@ -4,12 +4,6 @@ use borrow.Author.Needs.{needs}
 use Rattle.files_told.proofs.told.both_finite.Statement.{statement}
 use Rattle.files_told.proofs.told.both_finite.Tie as tie
 
-is-finite-word-requires : tie.Need-is-finite-word-requires
-is-finite-word-requires c κs = search needs
-
-is-finite-word-requires-2 : tie.Need-is-finite-word-requires-2
-is-finite-word-requires-2 c κs = search needs
-
 returns : tie.Need-returns
 returns c = simp (sym (c .before .before .is-finite-word .ensures) ∙ c .before .if1 .taken) (c .is-finite-word2 .ensures)
 
@@ -17,4 +11,10 @@ returns-2 : tie.Need-returns-2
 returns-2 c = simp (sym (c .before .is-finite-word .ensures) ∙ c .if1 .left)
 
 pub both-finite-spec : {M : Type 1} → statement M
-both-finite-spec = tie.close (tie.spec is-finite-word-requires is-finite-word-requires-2 returns returns-2)
+both-finite-spec =
+    tie.close
+    (tie.spec
+    (λ c κs. search needs)
+    (λ c κs. search needs)
+    returns
+    returns-2)

@@ -3,12 +3,6 @@ use borrow.Author.Needs.{needs}
 use Rattle.files_told.proofs.told.compared_words.Statement.{statement}
 use Rattle.files_told.proofs.told.compared_words.Tie as tie
 
-enum-told : tie.Need-enum-told
-enum-told c = search needs
-
-enum-known-largest : tie.Need-enum-known-largest
-enum-known-largest c = search needs
-
 returns : tie.Need-returns
 returns c = simp (c .enum-told .given .1)
 
@@ -16,4 +10,10 @@ returns-2 : tie.Need-returns-2
 returns-2 c = simp (c .before .largest .given .1)
 
 pub compared-words-spec : {M : Type 1} → statement M
-compared-words-spec = tie.close (tie.spec enum-told enum-known-largest returns returns-2)
+compared-words-spec =
+    tie.close
+    (tie.spec
+    (λ c. search needs)
+    (λ c. search needs)
+    returns
+    returns-2)

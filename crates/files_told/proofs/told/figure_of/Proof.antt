@@ -22,12 +22,6 @@ module _ (left right : ℕ) where
   by-bits : (b : Bool) → eqb left right ≡ b → pick b figure.EqualBits figure.UnequalBits ≡ pick (eqb left right) figure.EqualBits figure.UnequalBits
   by-bits b e = ap (λ (t : Bool). pick t figure.EqualBits figure.UnequalBits) (sym e)
 
-both-finite-requires : tie.Need-both-finite-requires
-both-finite-requires c κs = search needs
-
-distance-of-requires : tie.Need-distance-of-requires
-distance-of-requires c κs = search needs
-
 returns : tie.Need-returns
 returns c = by-test _ _ true (c .before .before .both-finite .ensures) (c .before .if1 .taken) (ap (λ (d : ℕ). figure.Distance d) (c .distance-of .ensures))
 
@@ -42,4 +36,11 @@ returns-3 c =
     by-test (a .left) (a .right) false (c .before .before .both-finite .ensures) (c .before .if1 .left) (by-bits (a .left) (a .right) false (ne-eqb _ _ (c .if2 .left)))
 
 pub figure-of-spec : {M : Type 1} → statement M
-figure-of-spec = tie.close (tie.spec both-finite-requires distance-of-requires returns returns-2 returns-3)
+figure-of-spec =
+    tie.close
+    (tie.spec
+    (λ c κs. search needs)
+    (λ c κs. search needs)
+    returns
+    returns-2
+    returns-3)

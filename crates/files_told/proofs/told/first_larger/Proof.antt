@@ -16,12 +16,6 @@ module _ {known : Largest} {r w most : ℕ} (e : known ≡ largest.At r w most) 
   stays : d ≤ most → largest.At r w most ≡ firstLarger known row word d
   stays h = rw (e, le-ltb most d h)
 
-enum-told : tie.Need-enum-told
-enum-told c = search needs
-
-enum-known-known : tie.Need-enum-known-known
-enum-known-known c = search needs
-
 returns : tie.Need-returns
 returns c = larger (c .before .before .known .given .1) _ _ _ (c .if1 .taken)
 
@@ -32,4 +26,11 @@ returns-3 : tie.Need-returns-3
 returns-3 c = stays (c .before .before .known .given .1) _ _ _ (c .if1 .left)
 
 pub first-larger-spec : {M : Type 1} → statement M
-first-larger-spec = tie.close (tie.spec enum-told enum-known-known returns returns-2 returns-3)
+first-larger-spec =
+    tie.close
+    (tie.spec
+    (λ c. search needs)
+    (λ c. search needs)
+    returns
+    returns-2
+    returns-3)

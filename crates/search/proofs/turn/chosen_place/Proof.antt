@@ -9,9 +9,6 @@ use Rattle.search.proofs.turn.chosen_place.Tie as tie
 sub-result : tie.Need-sub-result
 sub-result c = omega (arith, ltb-true 1 (gap (c .before .before .args .pair)) (c .before .before .pre))
 
-add-result : tie.Need-add-result
-add-result c = search needs
-
 returns : tie.Need-returns
 returns c = simp (eq-eqb _ _ (c .before .before .if1 .taken))
 
@@ -19,4 +16,10 @@ returns-2 : tie.Need-returns-2
 returns-2 c = simp (ne-eqb _ _ (c .if1 .left))
 
 pub chosen-place-spec : {M : Type 1} → statement M
-chosen-place-spec = tie.close (tie.spec sub-result add-result returns returns-2)
+chosen-place-spec =
+    tie.close
+    (tie.spec
+    sub-result
+    (λ c. search needs)
+    returns
+    returns-2)

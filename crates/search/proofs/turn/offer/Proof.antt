@@ -4,9 +4,6 @@ use borrow.Author.Needs.{needs}
 use Rattle.search.proofs.turn.offer.Statement.{statement}
 use Rattle.search.proofs.turn.offer.Tie as tie
 
-proposal-requires : tie.Need-proposal-requires
-proposal-requires c κs = search needs
-
 returns : tie.Need-returns
 returns c = simp (eq-eqb _ _ (c .before .if1 .taken)) (c .proposal .ensures)
 
@@ -14,4 +11,9 @@ returns-2 : tie.Need-returns-2
 returns-2 c = simp (ne-eqb _ _ (c .if1 .left))
 
 pub offer-spec : {M : Type 1} → statement M
-offer-spec = tie.close (tie.spec proposal-requires returns returns-2)
+offer-spec =
+    tie.close
+    (tie.spec
+    (λ c κs. search needs)
+    returns
+    returns-2)

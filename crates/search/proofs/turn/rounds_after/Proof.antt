@@ -4,9 +4,6 @@ use borrow.Author.Needs.{needs}
 use Rattle.search.proofs.turn.rounds_after.Statement.{statement}
 use Rattle.search.proofs.turn.rounds_after.Tie as tie
 
-sub-result : tie.Need-sub-result
-sub-result c = search needs
-
 returns : tie.Need-returns
 returns c = simp (eq-eqb _ _ (c .if1 .taken))
 
@@ -14,4 +11,9 @@ returns-2 : tie.Need-returns-2
 returns-2 c = simp (ne-eqb _ _ (c .if1 .left))
 
 pub rounds-after-spec : {M : Type 1} → statement M
-rounds-after-spec = tie.close (tie.spec sub-result returns returns-2)
+rounds-after-spec =
+    tie.close
+    (tie.spec
+    (λ c. search needs)
+    returns
+    returns-2)

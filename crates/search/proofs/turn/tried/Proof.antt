@@ -11,15 +11,16 @@ chosen-place-requires c κs = c .pre .0
 try-inner-requires : tie.Need-try-inner-requires
 try-inner-requires c κs = let a = c .before .args in rw (c .chosen-place .ensures) (place-above (a .pair) (a .offered) (c .before .pre .0))
 
-add-moved-by : tie.Need-add-moved-by
-add-moved-by c = search needs
-
-moved-by-requires : tie.Need-moved-by-requires
-moved-by-requires c κs = search needs
-
 returns : tie.Need-returns
 unfolding counted
 returns c = simp (c .before .try-inner .ensures, c .before .before .chosen-place .ensures) at (c .moved-by .ensures)
 
 pub tried-spec : {M : Type 1} → statement M
-tried-spec = tie.close (tie.spec chosen-place-requires try-inner-requires add-moved-by moved-by-requires returns)
+tried-spec =
+    tie.close
+    (tie.spec
+    chosen-place-requires
+    try-inner-requires
+    (λ c. search needs)
+    (λ c κs. search needs)
+    returns)

@@ -8,24 +8,9 @@ use Rattle.search_points.proofs.Points.{finite-point, no-point, above-zero}
 use Rattle.search.proofs.turn.try_inner.Statement.{statement}
 use Rattle.search.proofs.turn.try_inner.Tie as tie
 
-unevaluated-as-requires : tie.Need-unevaluated-as-requires
-unevaluated-as-requires c κs = search needs
-
 returns : tie.Need-returns
 unfolding trialAt
 returns c = simp (ne-eqb (c .before .before .args .place) 0 (λ e. omega (arith, c .before .before .pre)), le-leb _ _ (c .before .if1 .taken)) (c .unevaluated-as .ensures)
-
-anomaly-at-requires : tie.Need-anomaly-at-requires
-anomaly-at-requires c κs = search needs
-
-is-finite-requires : tie.Need-is-finite-requires
-is-finite-requires c κs = search needs
-
-first-sums-requires : tie.Need-first-sums-requires
-first-sums-requires c κs = search needs
-
-point-of-requires : tie.Need-point-of-requires
-point-of-requires c κs = search needs
 
 returns-2 : tie.Need-returns-2
 returns-2 c =
@@ -36,9 +21,6 @@ returns-2 c =
     let finite = sym (c .before .before .before .is-finite .ensures) ∙ c .before .before .if2 .taken in
     finite-point (a .initial) (a .tau) (psi .result) (f .result) finite (f .ensures) (c .point-of .ensures)
     ∙ ap (evaluatedAt (a .initial) (a .tau)) (psi .ensures) ∙ above-zero (a .initial) (a .tau) (a .place) (start .pre)
-
-unevaluated-as-requires-2 : tie.Need-unevaluated-as-requires-2
-unevaluated-as-requires-2 c κs = search needs
 
 returns-3 : tie.Need-returns-3
 returns-3 c =
@@ -52,12 +34,12 @@ pub try-inner-spec : {M : Type 1} → statement M
 try-inner-spec =
     tie.close
     (tie.spec
-    unevaluated-as-requires
+    (λ c κs. search needs)
     returns
-    anomaly-at-requires
-    is-finite-requires
-    first-sums-requires
-    point-of-requires
+    (λ c κs. search needs)
+    (λ c κs. search needs)
+    (λ c κs. search needs)
+    (λ c κs. search needs)
     returns-2
-    unevaluated-as-requires-2
+    (λ c κs. search needs)
     returns-3)

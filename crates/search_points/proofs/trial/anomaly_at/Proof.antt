@@ -14,9 +14,6 @@ returns : tie.Need-returns
 unfolding anomalyAt div ofBits
 returns c = simp (le-leb _ _ (c .if1 .taken))
 
-sign-of-requires : tie.Need-sign-of-requires
-sign-of-requires c κs = search needs
-
 add-t6 : tie.Need-add-t6
 add-t6 c = let a = c .before .before .args in omega (arith, sign-bound (lt (a .tau .0) n0), c .sign-of .ensures)
 
@@ -32,4 +29,11 @@ returns-2 c =
     simp (lt-leb _ _ (c .before .if1 .left), c .sign-of .ensures, signed-word (lt (a .tau .0) n0) (a .place) (omega arith))
 
 pub anomaly-at-spec : {M : Type 1} → statement M
-anomaly-at-spec = tie.close (tie.spec returns sign-of-requires add-t6 float-from-bits-t7 returns-2)
+anomaly-at-spec =
+    tie.close
+    (tie.spec
+    returns
+    (λ c κs. search needs)
+    add-t6
+    float-from-bits-t7
+    returns-2)

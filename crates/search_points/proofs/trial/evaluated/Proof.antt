@@ -5,26 +5,11 @@ use Rattle.search_points.specs.Trial.{evaluatedAt}
 use Rattle.search_points.proofs.trial.evaluated.Statement.{statement}
 use Rattle.search_points.proofs.trial.evaluated.Tie as tie
 
-is-finite-requires : tie.Need-is-finite-requires
-is-finite-requires c κs = search needs
-
-coefficients-requires : tie.Need-coefficients-requires
-coefficients-requires c κs = search needs
-
-sums-requires : tie.Need-sums-requires
-sums-requires c κs = search needs
-
-point-of-requires : tie.Need-point-of-requires
-point-of-requires c κs = search needs
-
 returns : tie.Need-returns
 unfolding evaluatedAt
 returns c =
     simp (sym (c .before .before .before .before .is-finite .ensures) ∙ c .before .before .before .if1 .taken)
     (simp (c .before .sums .ensures, c .before .before .coefficients .ensures) at (c .point-of .ensures))
-
-unevaluated-as-requires : tie.Need-unevaluated-as-requires
-unevaluated-as-requires c κs = search needs
 
 returns-2 : tie.Need-returns-2
 unfolding evaluatedAt
@@ -34,10 +19,10 @@ pub evaluated-spec : {M : Type 1} → statement M
 evaluated-spec =
     tie.close
     (tie.spec
-    is-finite-requires
-    coefficients-requires
-    sums-requires
-    point-of-requires
+    (λ c κs. search needs)
+    (λ c κs. search needs)
+    (λ c κs. search needs)
+    (λ c κs. search needs)
     returns
-    unevaluated-as-requires
+    (λ c κs. search needs)
     returns-2)

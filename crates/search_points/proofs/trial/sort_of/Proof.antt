@@ -15,9 +15,6 @@ returns-2 c =
     let a = c .before .before .before .before .args in
     past-back (a .tau) (a .error) (c .before .before .if1 .taken) (c .before .if2 .left) (c .if3 .taken)
 
-sort-without-sign-requires : tie.Need-sort-without-sign-requires
-sort-without-sign-requires c κs = search needs
-
 returns-3 : tie.Need-returns-3
 returns-3 c =
     let a = c .before .before .before .before .before .args in
@@ -33,9 +30,6 @@ returns-5 c =
     let a = c .before .before .before .before .args in
     past-on (a .tau) (a .error) (c .before .before .if1 .left) (c .before .if4 .left) (c .if5 .taken)
 
-sort-without-sign-requires-2 : tie.Need-sort-without-sign-requires-2
-sort-without-sign-requires-2 c κs = search needs
-
 returns-6 : tie.Need-returns-6
 returns-6 c =
     let a = c .before .before .before .before .before .args in
@@ -47,9 +41,9 @@ sort-of-spec =
     (tie.spec
     returns
     returns-2
-    sort-without-sign-requires
+    (λ c κs. search needs)
     returns-3
     returns-4
     returns-5
-    sort-without-sign-requires-2
+    (λ c κs. search needs)
     returns-6)

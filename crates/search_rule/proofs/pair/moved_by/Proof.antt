@@ -29,15 +29,6 @@ module _ (s : Pair) (t : Trial) (n : ℕ) where
   from : (place : ℕ) {x : Step} → x ≡ stepOf n (outwardStep (s .short) place t) → taken x ≡ nextOf n (moved s place t)
   from place e = ap taken e ∙ taken-is (t .sort) place
 
-step-by-requires : tie.Need-step-by-requires
-step-by-requires c κs = search needs
-
-enum-known-step : tie.Need-enum-known-step
-enum-known-step c = search needs
-
-enum-known-step-2 : tie.Need-enum-known-step-2
-enum-known-step-2 c = search needs
-
 returns : tie.Need-returns
 returns c =
     let a = c .before .before .before .before .before .before .args in
@@ -49,4 +40,11 @@ returns-2 c =
     from (a .pair) (a .t) (a .points) (a .place) (sym (c .before .step2 .given .1) ∙ c .before .before .before .step-by .ensures)
 
 pub moved-by-spec : {M : Type 1} → statement M
-moved-by-spec = tie.close (tie.spec step-by-requires enum-known-step enum-known-step-2 returns returns-2)
+moved-by-spec =
+    tie.close
+    (tie.spec
+    (λ c κs. search needs)
+    (λ c. search needs)
+    (λ c. search needs)
+    returns
+    returns-2)

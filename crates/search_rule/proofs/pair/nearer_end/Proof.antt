@@ -4,12 +4,6 @@ use Rattle.search_rule.specs.Nearer.{nearerEnd}
 use Rattle.search_rule.proofs.pair.nearer_end.Statement.{statement}
 use Rattle.search_rule.proofs.pair.nearer_end.Tie as tie
 
-magnitude-of-requires : tie.Need-magnitude-of-requires
-magnitude-of-requires c κs = search needs
-
-magnitude-of-requires-2 : tie.Need-magnitude-of-requires-2
-magnitude-of-requires-2 c κs = search needs
-
 returns : tie.Need-returns
 unfolding nearerEnd
 returns c = simp (← c .before .before .magnitude-of .ensures, ← c .before .magnitude-of2 .ensures, c .if1 .taken)
@@ -19,4 +13,10 @@ unfolding nearerEnd
 returns-2 c = simp (← c .before .before .magnitude-of .ensures, ← c .before .magnitude-of2 .ensures, c .if1 .left)
 
 pub nearer-end-spec : {M : Type 1} → statement M
-nearer-end-spec = tie.close (tie.spec magnitude-of-requires magnitude-of-requires-2 returns returns-2)
+nearer-end-spec =
+    tie.close
+    (tie.spec
+    (λ c κs. search needs)
+    (λ c κs. search needs)
+    returns
+    returns-2)

@@ -3,18 +3,6 @@ use borrow.Author.Needs.{needs}
 use Rattle.search_rule.proofs.pair.step_by.Statement.{statement}
 use Rattle.search_rule.proofs.pair.step_by.Tie as tie
 
-enum-known-sort : tie.Need-enum-known-sort
-enum-known-sort c = search needs
-
-enum-known-sort-2 : tie.Need-enum-known-sort-2
-enum-known-sort-2 c = search needs
-
-enum-told : tie.Need-enum-told
-enum-told c = search needs
-
-enum-told-2 : tie.Need-enum-told-2
-enum-told-2 c = search needs
-
 returns : tie.Need-returns
 returns c = simp (c .before .sort .given .1)
 
@@ -31,10 +19,10 @@ pub step-by-spec : {M : Type 1} → statement M
 step-by-spec =
     tie.close
     (tie.spec
-    enum-known-sort
-    enum-known-sort-2
-    enum-told
-    enum-told-2
+    (λ c. search needs)
+    (λ c. search needs)
+    (λ c. search needs)
+    (λ c. search needs)
     returns
     returns-2
     returns-3

@@ -4,18 +4,6 @@ use Rattle.states.specs.Call.{endedAnswer}
 use Rattle.states.proofs.call.answer_of.Statement.{statement}
 use Rattle.states.proofs.call.answer_of.Tie as tie
 
-enum-known-end : tie.Need-enum-known-end
-enum-known-end c = search needs
-
-answered-with-requires : tie.Need-answered-with-requires
-answered-with-requires c κs = search needs
-
-enum-known-end-2 : tie.Need-enum-known-end-2
-enum-known-end-2 c = search needs
-
-refused-with-requires : tie.Need-refused-with-requires
-refused-with-requires c κs = search needs
-
 returns : tie.Need-returns
 unfolding endedAnswer
 returns c = simp (c .before .before .end .given .1) (c .answered-with .ensures)
@@ -28,9 +16,9 @@ pub answer-of-spec : {M : Type 1} → statement M
 answer-of-spec =
     tie.close
     (tie.spec
-    enum-known-end
-    answered-with-requires
-    enum-known-end-2
-    refused-with-requires
+    (λ c. search needs)
+    (λ c κs. search needs)
+    (λ c. search needs)
+    (λ c κs. search needs)
     returns
     returns-2)

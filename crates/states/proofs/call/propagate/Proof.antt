@@ -5,24 +5,6 @@ use Rattle.states.specs.Call.{propagateOf, answerFrom, endedAnswer, prop
 use Rattle.states.proofs.call.propagate.Statement.{statement}
 use Rattle.states.proofs.call.propagate.Tie as tie
 
-reach-requires : tie.Need-reach-requires
-reach-requires c κs = search needs
-
-enum-known-arc : tie.Need-enum-known-arc
-enum-known-arc c = search needs
-
-ended-requires : tie.Need-ended-requires
-ended-requires c κs = search needs
-
-answer-of-requires : tie.Need-answer-of-requires
-answer-of-requires c κs = search needs
-
-enum-known-refusal : tie.Need-enum-known-refusal
-enum-known-refusal c = search needs
-
-refused-with-requires : tie.Need-refused-with-requires
-refused-with-requires c κs = search needs
-
 returns : tie.Need-returns
 unfolding propagateBy
 returns c = c .answer-of .ensures ∙ ap (endedAnswer _) (c .before .ended .ensures) ∙ ap answerFrom (sym (c .before .before .before .arc .given .1) ∙ c .before .before .before .before .before .reach .ensures)
@@ -35,11 +17,11 @@ pub propagate-spec : {M : Type 1} → statement M
 propagate-spec =
     tie.close
     (tie.spec
-    reach-requires
-    enum-known-arc
-    ended-requires
-    answer-of-requires
-    enum-known-refusal
-    refused-with-requires
+    (λ c κs. search needs)
+    (λ c. search needs)
+    (λ c κs. search needs)
+    (λ c κs. search needs)
+    (λ c. search needs)
+    (λ c κs. search needs)
     returns
     returns-2)

@@ -5,15 +5,14 @@ use Rattle.states.specs.Call.{reachedOverBy, reachedFromBy}
 use Rattle.states.proofs.call.reach_from.Statement.{statement}
 use Rattle.states.proofs.call.reach_from.Tie as tie
 
-interval-of-requires : tie.Need-interval-of-requires
-interval-of-requires c κs = search needs
-
-reach-over-requires : tie.Need-reach-over-requires
-reach-over-requires c κs = search needs
-
 returns : tie.Need-returns
 unfolding reachedFromBy
 returns c = c .reach-over .ensures ∙ ap (reachedOverBy _ _) (c .before .interval-of .ensures)
 
 pub reach-from-spec : {M : Type 1} → statement M
-reach-from-spec = tie.close (tie.spec interval-of-requires reach-over-requires returns)
+reach-from-spec =
+    tie.close
+    (tie.spec
+    (λ c κs. search needs)
+    (λ c κs. search needs)
+    returns)

@@ -7,18 +7,6 @@ use Rattle.states.specs.Call.{finderOf, reachedBegunBy, reachedOrbitBy}
 use Rattle.states.proofs.call.reach_orbit.Statement.{statement}
 use Rattle.states.proofs.call.reach_orbit.Tie as tie
 
-start-of-requires : tie.Need-start-of-requires
-start-of-requires c κs = search needs
-
-enum-known-start : tie.Need-enum-known-start
-enum-known-start c = search needs
-
-reach-from-requires : tie.Need-reach-from-requires
-reach-from-requires c κs = search needs
-
-enum-known-refusal : tie.Need-enum-known-refusal
-enum-known-refusal c = search needs
-
 returns : tie.Need-returns
 unfolding reachedOrbitBy
 returns c =
@@ -35,9 +23,9 @@ pub reach-orbit-spec : {M : Type 1} → statement M
 reach-orbit-spec =
     tie.close
     (tie.spec
-    start-of-requires
-    enum-known-start
-    reach-from-requires
-    enum-known-refusal
+    (λ c κs. search needs)
+    (λ c. search needs)
+    (λ c κs. search needs)
+    (λ c. search needs)
     returns
     returns-2)

@@ -23,20 +23,8 @@ module _ (find : Finder) (s : Start) (d : Interval) (h : Anomaly) (eh : h ≡ fi
   unfolding reachedOverBy
   led-on t f es er = rw (← eh, ← ef, t, ← es) er
 
-first-step-requires : tie.Need-first-step-requires
-first-step-requires c κs = search needs
-
-is-finite-requires : tie.Need-is-finite-requires
-is-finite-requires c κs = search needs
-
 returns : tie.Need-returns
 returns c = step-refused _ _ _ _ (c .before .before .first-step .ensures) (c .before .is-finite .ensures) (c .if1 .taken)
-
-find-requires : tie.Need-find-requires
-find-requires c κs = search needs
-
-reached-found-requires : tie.Need-reached-found-requires
-reached-found-requires c κs = search needs
 
 returns-2 : tie.Need-returns-2
 returns-2 c =
@@ -47,9 +35,9 @@ pub reach-over-spec : {M : Type 1} → statement M
 reach-over-spec =
     tie.close
     (tie.spec
-    first-step-requires
-    is-finite-requires
+    (λ c κs. search needs)
+    (λ c κs. search needs)
     returns
-    find-requires
-    reached-found-requires
+    (λ c κs. search needs)
+    (λ c κs. search needs)
     returns-2)

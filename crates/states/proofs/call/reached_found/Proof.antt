@@ -4,18 +4,6 @@ use Rattle.states.specs.Call.{reachedFound}
 use Rattle.states.proofs.call.reached_found.Statement.{statement}
 use Rattle.states.proofs.call.reached_found.Tie as tie
 
-enum-known-found : tie.Need-enum-known-found
-enum-known-found c = search needs
-
-arc-at-requires : tie.Need-arc-at-requires
-arc-at-requires c κs = search needs
-
-enum-known-found-2 : tie.Need-enum-known-found-2
-enum-known-found-2 c = search needs
-
-enum-known-found-3 : tie.Need-enum-known-found-3
-enum-known-found-3 c = search needs
-
 returns : tie.Need-returns
 unfolding reachedFound
 returns c = simp (c .before .before .found .given .1, c .arc-at .ensures)
@@ -32,10 +20,10 @@ pub reached-found-spec : {M : Type 1} → statement M
 reached-found-spec =
     tie.close
     (tie.spec
-    enum-known-found
-    arc-at-requires
-    enum-known-found-2
-    enum-known-found-3
+    (λ c. search needs)
+    (λ c κs. search needs)
+    (λ c. search needs)
+    (λ c. search needs)
     returns
     returns-2
     returns-3)

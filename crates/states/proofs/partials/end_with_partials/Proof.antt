@@ -6,24 +6,6 @@ use Rattle.states.specs.WithPartials.{endedWith, lentEnded}
 use Rattle.states.proofs.partials.end_with_partials.Statement.{statement}
 use Rattle.states.proofs.partials.end_with_partials.Tie as tie
 
-ended-requires : tie.Need-ended-requires
-ended-requires c κs = search needs
-
-enum-known-results : tie.Need-enum-known-results
-enum-known-results c = search needs
-
-with-partials-requires : tie.Need-with-partials-requires
-with-partials-requires c κs = search needs
-
-enum-known-refusal : tie.Need-enum-known-refusal
-enum-known-refusal c = search needs
-
-refused-with-requires : tie.Need-refused-with-requires
-refused-with-requires c κs = search needs
-
-same-length : tie.Need-same-length
-same-length c = search needs
-
 returns : tie.Need-returns
 returns c =
     let a = c .before .before .before .before .before .before .before .before .before .args in
@@ -45,11 +27,11 @@ pub end-with-partials-spec : {M : Type 1} → statement M
 end-with-partials-spec =
     tie.close
     (tie.spec
-    ended-requires
-    enum-known-results
-    with-partials-requires
-    enum-known-refusal
-    refused-with-requires
-    same-length
+    (λ c κs. search needs)
+    (λ c. search needs)
+    (λ c κs. search needs)
+    (λ c. search needs)
+    (λ c κs. search needs)
+    (λ c. search needs)
     returns
     returns-2)

@@ -36,29 +36,8 @@ module _ (words run : List ℕ) where
         ap (λ (y : Reached). lentFrom y run) p ∙ ap (λ (t : Bool). pick (not t) run (lentFrom (reachedOf words) run)) e,
       )
 
-refused-with-requires : tie.Need-refused-with-requires
-refused-with-requires c κs = search needs
-
 returns : tie.Need-returns
 returns c = let w = wrong-length (c .before .before .before .args .words) _ (c .before .if1 .taken) in (c .refused-with .ensures ∙ w .0, w .1)
-
-reach-requires : tie.Need-reach-requires
-reach-requires c κs = search needs
-
-enum-known-arc : tie.Need-enum-known-arc
-enum-known-arc c = search needs
-
-end-with-partials-requires : tie.Need-end-with-partials-requires
-end-with-partials-requires c κs = search needs
-
-enum-known-refusal : tie.Need-enum-known-refusal
-enum-known-refusal c = search needs
-
-refused-with-requires-2 : tie.Need-refused-with-requires-2
-refused-with-requires-2 c κs = search needs
-
-same-length : tie.Need-same-length
-same-length c = search needs
 
 returns-2 : tie.Need-returns-2
 returns-2 c =
@@ -77,13 +56,13 @@ pub propagate-with-partials-spec : {M : Type 1} → statement M
 propagate-with-partials-spec =
     tie.close
     (tie.spec
-    refused-with-requires
+    (λ c κs. search needs)
     returns
-    reach-requires
-    enum-known-arc
-    end-with-partials-requires
-    enum-known-refusal
-    refused-with-requires-2
-    same-length
+    (λ c κs. search needs)
+    (λ c. search needs)
+    (λ c κs. search needs)
+    (λ c. search needs)
+    (λ c κs. search needs)
+    (λ c. search needs)
     returns-2
     returns-3)

@@ -28,26 +28,11 @@ module _ (arc : Arc) (n : ℕ) (r : Results) (run : List ℕ) where
   unfolding withPartials by
   answers {k} e z = sym (ap (λ (t : Bool). pick (not t) (refused k n) (answered n r)) (eq-eqb k 0 z)) ∙ ap by e
 
-write-partials-requires : tie.Need-write-partials-requires
-write-partials-requires c κs = search needs
-
-refused-with-requires : tie.Need-refused-with-requires
-refused-with-requires c κs = search needs
-
-same-length : tie.Need-same-length
-same-length c = search needs
-
 returns : tie.Need-returns
 returns c =
     let a = c .before .before .before .before .before .before .before .args in
     let w = c .before .before .before .before .write-partials in
     (c .refused-with .ensures ∙ refuses (a .arc) (a .points) (a .results) _ (w .ensures .0) (c .before .if1 .taken), w .ensures .1)
-
-answered-with-requires : tie.Need-answered-with-requires
-answered-with-requires c κs = search needs
-
-same-length-2 : tie.Need-same-length-2
-same-length-2 c = search needs
 
 returns-2 : tie.Need-returns-2
 returns-2 c =
@@ -59,10 +44,10 @@ pub with-partials-spec : {M : Type 1} → statement M
 with-partials-spec =
     tie.close
     (tie.spec
-    write-partials-requires
-    refused-with-requires
-    same-length
+    (λ c κs. search needs)
+    (λ c κs. search needs)
+    (λ c. search needs)
     returns
-    answered-with-requires
-    same-length-2
+    (λ c κs. search needs)
+    (λ c. search needs)
     returns-2)

@@ -22,21 +22,6 @@ module _ (start : Start) (interval : Interval) (psi : Anomaly) (c : Coefficients
   unfolding arcOf
   assembled ec es er ek ee = rw (ee, ek, er, es, ec)
 
-coefficients-requires : tie.Need-coefficients-requires
-coefficients-requires c κs = search needs
-
-sums-requires : tie.Need-sums-requires
-sums-requires c κs = search needs
-
-radius-requires : tie.Need-radius-requires
-radius-requires c κs = search needs
-
-factors-at-requires : tie.Need-factors-at-requires
-factors-at-requires c κs = search needs
-
-end-state-requires : tie.Need-end-state-requires
-end-state-requires c κs = search needs
-
 returns : tie.Need-returns
 returns c =
     let k = c .before in
@@ -48,9 +33,9 @@ pub arc-at-spec : {M : Type 1} → statement M
 arc-at-spec =
     tie.close
     (tie.spec
-    coefficients-requires
-    sums-requires
-    radius-requires
-    factors-at-requires
-    end-state-requires
+    (λ c κs. search needs)
+    (λ c κs. search needs)
+    (λ c κs. search needs)
+    (λ c κs. search needs)
+    (λ c κs. search needs)
     returns)

@@ -4,21 +4,6 @@ use borrow.Author.Needs.{needs}
 use Rattle.states_arcs.proofs.results.end_divisors.Statement.{statement}
 use Rattle.states_arcs.proofs.results.end_divisors.Tie as tie
 
-word-of-requires : tie.Need-word-of-requires
-word-of-requires c κs = search needs
-
-word-of-requires-2 : tie.Need-word-of-requires-2
-word-of-requires-2 c κs = search needs
-
-word-of-requires-3 : tie.Need-word-of-requires-3
-word-of-requires-3 c κs = search needs
-
-word-of-requires-4 : tie.Need-word-of-requires-4
-word-of-requires-4 c κs = search needs
-
-word-of-requires-5 : tie.Need-word-of-requires-5
-word-of-requires-5 c κs = search needs
-
 returns : tie.Need-returns
 returns c =
     let b1 = c .before .before .before in
@@ -29,9 +14,9 @@ pub end-divisors-spec : {M : Type 1} → statement M
 end-divisors-spec =
     tie.close
     (tie.spec
-    word-of-requires
-    word-of-requires-2
-    word-of-requires-3
-    word-of-requires-4
-    word-of-requires-5
+    (λ c κs. search needs)
+    (λ c κs. search needs)
+    (λ c κs. search needs)
+    (λ c κs. search needs)
+    (λ c κs. search needs)
     returns)

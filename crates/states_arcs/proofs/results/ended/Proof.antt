@@ -32,31 +32,10 @@ module _ (a : Arc) (h : isNotAbove (a .r) ≡ false) (divisors : List ℕ) (ed :
 returns : tie.Need-returns
 returns c = not-above _ (c .if1 .taken)
 
-end-divisors-requires : tie.Need-end-divisors-requires
-end-divisors-requires c κs = search needs
-
-slice-aggregate-has : tie.Need-slice-aggregate-has
-slice-aggregate-has c = search needs
-
-has-requires : tie.Need-has-requires
-has-requires c κs = search needs
-
 returns-2 : tie.Need-returns-2
 returns-2 c =
     let d = c .before .before .before in
     zero-divisor _ (d .before .if1 .left) _ (d .end-divisors .ensures) (sym (c .before .has .ensures) ∙ c .if2 .taken)
-
-results-of-requires : tie.Need-results-of-requires
-results-of-requires c κs = search needs
-
-figures-of-requires : tie.Need-figures-of-requires
-figures-of-requires c κs = search needs
-
-slice-aggregate-has-2 : tie.Need-slice-aggregate-has-2
-slice-aggregate-has-2 c = search needs
-
-has-requires-2 : tie.Need-has-requires-2
-has-requires-2 c κs = search needs
 
 returns-3 : tie.Need-returns-3
 returns-3 c =
@@ -77,13 +56,13 @@ ended-spec =
     tie.close
     (tie.spec
     returns
-    end-divisors-requires
-    slice-aggregate-has
-    has-requires
+    (λ c κs. search needs)
+    (λ c. search needs)
+    (λ c κs. search needs)
     returns-2
-    results-of-requires
-    figures-of-requires
-    slice-aggregate-has-2
-    has-requires-2
+    (λ c κs. search needs)
+    (λ c κs. search needs)
+    (λ c. search needs)
+    (λ c κs. search needs)
     returns-3
     returns-4)

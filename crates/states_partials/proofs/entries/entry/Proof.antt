@@ -18,18 +18,6 @@ module _ (arc : Arc) (a : Matrix) (row column : ℕ) (unit p w q u : Float)
   unfolding entryOf
   assembled e = e ∙ λ i. partialOf (ltb row 3) (ltb column 3) (arc .factors) a (ei i) (ep i) (ew i) (eq i) (eu i)
 
-component-requires : tie.Need-component-requires
-component-requires c κs = search needs
-
-component-requires-2 : tie.Need-component-requires-2
-component-requires-2 c κs = search needs
-
-unit-of-requires : tie.Need-unit-of-requires
-unit-of-requires c κs = search needs
-
-partial-requires : tie.Need-partial-requires
-partial-requires c κs = search needs
-
 returns : tie.Need-returns
 returns c =
     let start = c .before .before .before .before .before in
@@ -40,8 +28,8 @@ pub entry-spec : {M : Type 1} → statement M
 entry-spec =
     tie.close
     (tie.spec
-    component-requires
-    component-requires-2
-    unit-of-requires
-    partial-requires
+    (λ c κs. search needs)
+    (λ c κs. search needs)
+    (λ c κs. search needs)
+    (λ c κs. search needs)
     returns)

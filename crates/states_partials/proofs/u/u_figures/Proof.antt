@@ -6,24 +6,6 @@ use lib.Ieee.{binary64, toBits}
 use Rattle.states_partials.proofs.u.u_figures.Statement.{statement}
 use Rattle.states_partials.proofs.u.u_figures.Tie as tie
 
-word-of-requires : tie.Need-word-of-requires
-word-of-requires c κs = search needs
-
-word-of-requires-2 : tie.Need-word-of-requires-2
-word-of-requires-2 c κs = search needs
-
-word-of-requires-3 : tie.Need-word-of-requires-3
-word-of-requires-3 c κs = search needs
-
-word-of-requires-4 : tie.Need-word-of-requires-4
-word-of-requires-4 c κs = search needs
-
-u-at-whole-requires : tie.Need-u-at-whole-requires
-u-at-whole-requires c κs = search needs
-
-word-of-requires-5 : tie.Need-word-of-requires-5
-word-of-requires-5 c κs = search needs
-
 returns : tie.Need-returns
 returns c =
     let b1 = c .before .before .before in
@@ -34,10 +16,10 @@ pub u-figures-spec : {M : Type 1} → statement M
 u-figures-spec =
     tie.close
     (tie.spec
-    word-of-requires
-    word-of-requires-2
-    word-of-requires-3
-    word-of-requires-4
-    u-at-whole-requires
-    word-of-requires-5
+    (λ c κs. search needs)
+    (λ c κs. search needs)
+    (λ c κs. search needs)
+    (λ c κs. search needs)
+    (λ c κs. search needs)
+    (λ c κs. search needs)
     returns)

@@ -22,24 +22,6 @@ module _ (a : Arc) where
   unfolding uOf
   without eu e = eu ∙ ap (λ (o : Off). uBy o a) e
 
-enum-known-came-off : tie.Need-enum-known-came-off
-enum-known-came-off c = search needs
-
-whole-anomaly-requires : tie.Need-whole-anomaly-requires
-whole-anomaly-requires c κs = search needs
-
-whole-sums-requires : tie.Need-whole-sums-requires
-whole-sums-requires c κs = search needs
-
-u-at-whole-requires : tie.Need-u-at-whole-requires
-u-at-whole-requires c κs = search needs
-
-enum-told : tie.Need-enum-told
-enum-told c = search needs
-
-u-at-found-requires : tie.Need-u-at-found-requires
-u-at-found-requires c κs = search needs
-
 returns : tie.Need-returns
 returns c =
     let w = c .before .before in
@@ -52,11 +34,11 @@ pub u-of-spec : {M : Type 1} → statement M
 u-of-spec =
     tie.close
     (tie.spec
-    enum-known-came-off
-    whole-anomaly-requires
-    whole-sums-requires
-    u-at-whole-requires
-    enum-told
-    u-at-found-requires
+    (λ c. search needs)
+    (λ c κs. search needs)
+    (λ c κs. search needs)
+    (λ c κs. search needs)
+    (λ c. search needs)
+    (λ c κs. search needs)
     returns
     returns-2)

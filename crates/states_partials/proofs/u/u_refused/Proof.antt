@@ -28,27 +28,6 @@ module _ (a : Arc) where
   unfolding uRefused
   without e = ap (λ (o : Off). uRefusedBy o a) e
 
-enum-known-came-off : tie.Need-enum-known-came-off
-enum-known-came-off c = search needs
-
-whole-anomaly-requires : tie.Need-whole-anomaly-requires
-whole-anomaly-requires c κs = search needs
-
-whole-sums-requires : tie.Need-whole-sums-requires
-whole-sums-requires c κs = search needs
-
-u-figures-requires : tie.Need-u-figures-requires
-u-figures-requires c κs = search needs
-
-slice-aggregate-has : tie.Need-slice-aggregate-has
-slice-aggregate-has c = search needs
-
-has-requires : tie.Need-has-requires
-has-requires c κs = search needs
-
-enum-told : tie.Need-enum-told
-enum-told c = search needs
-
 returns : tie.Need-returns
 returns c =
     let f = c .before .before in
@@ -62,12 +41,12 @@ pub u-refused-spec : {M : Type 1} → statement M
 u-refused-spec =
     tie.close
     (tie.spec
-    enum-known-came-off
-    whole-anomaly-requires
-    whole-sums-requires
-    u-figures-requires
-    slice-aggregate-has
-    has-requires
-    enum-told
+    (λ c. search needs)
+    (λ c κs. search needs)
+    (λ c κs. search needs)
+    (λ c κs. search needs)
+    (λ c. search needs)
+    (λ c κs. search needs)
+    (λ c. search needs)
     returns
     returns-2)

@@ -24,17 +24,8 @@ module _ (i : Initial) {closed : Bool} (ec : closed ≡ isClosed i) where
     unfolding courseOf
     closed-so k = rw (← ec, not-false closed h, ← ev, ← eu, not-false usable k)
 
-closes-requires : tie.Need-closes-requires
-closes-requires c κs = search needs
-
 returns : tie.Need-returns
 returns c = not-closed _ (c .before .closes .ensures) (c .if1 .taken)
-
-revolution-of-requires : tie.Need-revolution-of-requires
-revolution-of-requires c κs = search needs
-
-is-usable-requires : tie.Need-is-usable-requires
-is-usable-requires c κs = search needs
 
 returns-2 : tie.Need-returns-2
 returns-2 c =
@@ -50,9 +41,9 @@ pub course-of-spec : {M : Type 1} → statement M
 course-of-spec =
     tie.close
     (tie.spec
-    closes-requires
+    (λ c κs. search needs)
     returns
-    revolution-of-requires
-    is-usable-requires
+    (λ c κs. search needs)
+    (λ c κs. search needs)
     returns-2
     returns-3)

@@ -6,9 +6,6 @@ use Rattle.states_revolutions.proofs.AndLaws.{and-then, and-not}
 use Rattle.states_revolutions.proofs.revolutions.is_usable.Statement.{statement}
 use Rattle.states_revolutions.proofs.revolutions.is_usable.Tie as tie
 
-is-finite-requires : tie.Need-is-finite-requires
-is-finite-requires c κs = search needs
-
 returns : tie.Need-returns
 unfolding isUsable
 returns c = and-then _ _ (sym (c .before .before .is-finite .ensures) ∙ c .before .if1 .taken)
@@ -18,4 +15,9 @@ unfolding isUsable
 returns-2 c = c .before .is-finite .ensures ∙ and-not _ _ (sym (c .before .is-finite .ensures) ∙ c .if1 .left)
 
 pub is-usable-spec : {M : Type 1} → statement M
-is-usable-spec = tie.close (tie.spec is-finite-requires returns returns-2)
+is-usable-spec =
+    tie.close
+    (tie.spec
+    (λ c κs. search needs)
+    returns
+    returns-2)

@@ -4,12 +4,13 @@ use Rattle.states_revolutions.specs.Revolutions.{revolutionOf}
 use Rattle.states_revolutions.proofs.revolutions.revolution_of.Statement.{statement}
 use Rattle.states_revolutions.proofs.revolutions.revolution_of.Tie as tie
 
-root-of-figure-requires : tie.Need-root-of-figure-requires
-root-of-figure-requires c κs = search needs
-
 returns : tie.Need-returns
 unfolding revolutionOf
 returns c = simp (c .before .before .root-of-figure .ensures .1)
 
 pub revolution-of-spec : {M : Type 1} → statement M
-revolution-of-spec = tie.close (tie.spec root-of-figure-requires returns)
+revolution-of-spec =
+    tie.close
+    (tie.spec
+    (λ c κs. search needs)
+    returns)

@@ -27,9 +27,6 @@ module _ (n : Float) (v : Revolution) (whole : WholeInterval) where
   unfolding withoutN
   some z = rw z
 
-as-it-is-requires : tie.Need-as-it-is-requires
-as-it-is-requires c κs = search needs
-
 returns : tie.Need-returns
 returns c = none _ _ _ (c .before .if1 .taken) (c .as-it-is .ensures)
 
@@ -37,4 +34,9 @@ returns-2 : tie.Need-returns-2
 returns-2 c = some _ _ _ (c .before .before .before .if1 .left)
 
 pub without-n-spec : {M : Type 1} → statement M
-without-n-spec = tie.close (tie.spec as-it-is-requires returns returns-2)
+without-n-spec =
+    tie.close
+    (tie.spec
+    (λ c κs. search needs)
+    returns
+    returns-2)

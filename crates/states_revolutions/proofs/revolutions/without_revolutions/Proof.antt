@@ -6,21 +6,6 @@ use Rattle.states_revolutions.specs.declared.figures.Floor.{Floor}
 use Rattle.states_revolutions.proofs.revolutions.without_revolutions.Statement.{statement}
 use Rattle.states_revolutions.proofs.revolutions.without_revolutions.Tie as tie
 
-floor-of-requires : tie.Need-floor-of-requires
-floor-of-requires c κs = search needs
-
-enum-known-n : tie.Need-enum-known-n
-enum-known-n c = search needs
-
-without-n-requires : tie.Need-without-n-requires
-without-n-requires c κs = search needs
-
-enum-told : tie.Need-enum-told
-enum-told c = search needs
-
-as-it-is-requires : tie.Need-as-it-is-requires
-as-it-is-requires c κs = search needs
-
 returns : tie.Need-returns
 unfolding withoutRevolutions
 returns c =
@@ -39,10 +24,10 @@ pub without-revolutions-spec : {M : Type 1} → statement M
 without-revolutions-spec =
     tie.close
     (tie.spec
-    floor-of-requires
-    enum-known-n
-    without-n-requires
-    enum-told
-    as-it-is-requires
+    (λ c κs. search needs)
+    (λ c. search needs)
+    (λ c κs. search needs)
+    (λ c. search needs)
+    (λ c κs. search needs)
     returns
     returns-2)

@@ -26,15 +26,6 @@ module _ (words : List ℕ) {first : ℕ} (e : first ≡ firstOf NotFinite words
   unfolding readOf
   accepted h mu tau position velocity em ep ev et = rw (has-none NotFinite words e h, em, ep, ev, et)
 
-slice-aggregate-first-of : tie.Need-slice-aggregate-first-of
-slice-aggregate-first-of c = search needs
-
-first-of-requires : tie.Need-first-of-requires
-first-of-requires c κs = search needs
-
-figure-refusal-requires : tie.Need-figure-refusal-requires
-figure-refusal-requires c κs = search needs
-
 returns : tie.Need-returns
 returns c = refused _ (c .before .before .first-of .ensures) (omega arith) (c .figure-refusal .ensures)
 
@@ -60,9 +51,9 @@ pub orbit-of-spec : {M : Type 1} → statement M
 orbit-of-spec =
     tie.close
     (tie.spec
-    slice-aggregate-first-of
-    first-of-requires
-    figure-refusal-requires
+    (λ c. search needs)
+    (λ c κs. search needs)
+    (λ c κs. search needs)
     returns
     vector-at-requires
     vector-at-requires-2

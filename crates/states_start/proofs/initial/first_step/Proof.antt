@@ -4,12 +4,13 @@ use Rattle.states_start.specs.Initial.{firstStepOf}
 use Rattle.states_start.proofs.initial.first_step.Statement.{statement}
 use Rattle.states_start.proofs.initial.first_step.Tie as tie
 
-magnitude-of-requires : tie.Need-magnitude-of-requires
-magnitude-of-requires c κs = search needs
-
 returns : tie.Need-returns
 unfolding firstStepOf
 returns c = simp (c .before .magnitude-of .ensures)
 
 pub first-step-spec : {M : Type 1} → statement M
-first-step-spec = tie.close (tie.spec magnitude-of-requires returns)
+first-step-spec =
+    tie.close
+    (tie.spec
+    (λ c κs. search needs)
+    returns)

@@ -43,29 +43,8 @@ module _ (o : Orbit) (sum r0 sigma0 v2 : Float) (words : List ℕ)
   begun : has NotFinite words ≡ false → (k : Course) → k ≡ courseOf initial → Start (record { state = o .state; initial = initial }) k ≡ begunOf o
   begun h k ek = ap (Start (record { state = o .state; initial = initial })) ek ∙ decided false (sym h)
 
-product-requires : tie.Need-product-requires
-product-requires c κs = search needs
-
 returns : tie.Need-returns
 returns c = at-zero _ _ (c .before .product .ensures) (c .if1 .taken)
-
-root-of-figure-requires : tie.Need-root-of-figure-requires
-root-of-figure-requires c κs = search needs
-
-product-requires-2 : tie.Need-product-requires-2
-product-requires-2 c κs = search needs
-
-product-requires-3 : tie.Need-product-requires-3
-product-requires-3 c κs = search needs
-
-tested-requires : tie.Need-tested-requires
-tested-requires c κs = search needs
-
-slice-aggregate-has : tie.Need-slice-aggregate-has
-slice-aggregate-has c = search needs
-
-has-requires : tie.Need-has-requires
-has-requires c κs = search needs
 
 returns-2 : tie.Need-returns-2
 returns-2 c =
@@ -73,9 +52,6 @@ returns-2 c =
     let r = v .before .before in
     decided _ _ _ _ _ _ (r .before .before .product .ensures) (r .root-of-figure .ensures .1) (v .before .product2 .ensures) (v .product3 .ensures)
     (r .before .if1 .left) (c .before .before .before .tested .ensures) true (sym (c .if2 .taken) ∙ c .before .has .ensures)
-
-course-of-requires : tie.Need-course-of-requires
-course-of-requires c κs = search needs
 
 returns-3 : tie.Need-returns-3
 unfolding initial
@@ -90,14 +66,14 @@ pub start-of-spec : {M : Type 1} → statement M
 start-of-spec =
     tie.close
     (tie.spec
-    product-requires
+    (λ c κs. search needs)
     returns
-    root-of-figure-requires
-    product-requires-2
-    product-requires-3
-    tested-requires
-    slice-aggregate-has
-    has-requires
+    (λ c κs. search needs)
+    (λ c κs. search needs)
+    (λ c κs. search needs)
+    (λ c κs. search needs)
+    (λ c. search needs)
+    (λ c κs. search needs)
     returns-2
-    course-of-requires
+    (λ c κs. search needs)
     returns-3)

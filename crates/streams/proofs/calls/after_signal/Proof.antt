@@ -7,11 +7,13 @@ use Rattle.streams.proofs.calls.after_signal.Tie as tie
 returns : tie.Need-returns
 returns c = rw (eq-eqb _ _ (c .if1 .taken))
 
-sub-t4 : tie.Need-sub-t4
-sub-t4 c = search needs
-
 returns-2 : tie.Need-returns-2
 returns-2 c = rw (ne-eqb _ _ (c .if1 .left))
 
 pub after-signal-spec : {M : Type 1} → statement M
-after-signal-spec = tie.close (tie.spec returns sub-t4 returns-2)
+after-signal-spec =
+    tie.close
+    (tie.spec
+    returns
+    (λ c. search needs)
+    returns-2)

@@ -4,18 +4,6 @@ use Rattle.streams.proofs.Parts.{part}
 use Rattle.streams.proofs.input.read_some.Statement.{statement}
 use Rattle.streams.proofs.input.read_some.Tie as tie
 
-read-requires : tie.Need-read-requires
-read-requires c κs = search needs
-
-errno-requires : tie.Need-errno-requires
-errno-requires c κs = search needs
-
-call-of-requires : tie.Need-call-of-requires
-call-of-requires c κs = search needs
-
-same-length : tie.Need-same-length
-same-length c = search needs
-
 returns : tie.Need-returns
 returns c =
     let called = c .before .before .before .before .read in
@@ -23,4 +11,10 @@ returns c =
 
 pub read-some-spec : {M : Type 1} → statement M
 read-some-spec =
-    tie.close (tie.spec read-requires errno-requires call-of-requires same-length returns)
+    tie.close
+    (tie.spec
+    (λ c κs. search needs)
+    (λ c κs. search needs)
+    (λ c κs. search needs)
+    (λ c. search needs)
+    returns)

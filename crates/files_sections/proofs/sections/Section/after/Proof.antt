@@ -7,19 +7,10 @@ use Rattle.files_sections.proofs.RecordLaws.{words-bound}
 use Rattle.files_sections.proofs.sections.Section.after.Statement.{statement}
 use Rattle.files_sections.proofs.sections.Section.after.Tie as tie
 
-add-result : tie.Need-add-result
-add-result c = search needs
-
-width-requires : tie.Need-width-requires
-width-requires c κs = search needs
-
 few : (c : tie.After-width) → c .before .args .count * c .width .result ≤ 2 ^ 16 * 8
 few c =
     let a = c .before .args in
     rw (c .width .ensures) (words-bound (a .self) (a .count) (2 ^ 16) (omega (arith, c .before .fits .count)))
-
-cast-result : tie.Need-cast-result
-cast-result c = search needs
 
 mul-result : tie.Need-mul-result
 mul-result c = omega (arith, few c)
@@ -36,4 +27,13 @@ returns c =
     ap (λ (w : ℕ). a .place + 8 + 8 * (a .count * w)) (c .width .ensures)
 
 pub after-spec : {M : Type 1} → statement M
-after-spec = tie.close (tie.spec add-result width-requires cast-result mul-result mul-result-2 add-result-2 returns)
+after-spec =
+    tie.close
+    (tie.spec
+    (λ c. search needs)
+    (λ c κs. search needs)
+    (λ c. search needs)
+    mul-result
+    mul-result-2
+    add-result-2
+    returns)

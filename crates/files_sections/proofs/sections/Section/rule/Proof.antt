@@ -6,24 +6,6 @@ use Rattle.files_sections.specs.Sections.{widthOf}
 use Rattle.files_sections.proofs.sections.Section.rule.Statement.{statement}
 use Rattle.files_sections.proofs.sections.Section.rule.Tie as tie
 
-width-requires : tie.Need-width-requires
-width-requires c κs = search needs
-
-cast-width : tie.Need-cast-width
-cast-width c = search needs
-
-enum-told : tie.Need-enum-told
-enum-told c = search needs
-
-enum-told-2 : tie.Need-enum-told-2
-enum-told-2 c = search needs
-
-enum-told-3 : tie.Need-enum-told-3
-enum-told-3 c = search needs
-
-returns : tie.Need-returns
-returns c = search needs
-
 returns-2 : tie.Need-returns-2
 returns-2 c =
     let e = c .enum-told2 .given .1 in
@@ -38,11 +20,11 @@ pub rule-spec : {M : Type 1} → statement M
 rule-spec =
     tie.close
     (tie.spec
-    width-requires
-    cast-width
-    enum-told
-    enum-told-2
-    enum-told-3
-    returns
+    (λ c κs. search needs)
+    (λ c. search needs)
+    (λ c. search needs)
+    (λ c. search needs)
+    (λ c. search needs)
+    (λ c. search needs)
     returns-2
     returns-3)
