@@ -20,8 +20,8 @@ static int make_list(const struct element_file *elements, uint64_t *list)
     uint64_t refusal;
 
     copy_states(elements, states);
-    refusal = kelubashi1_summary(states, KELUBASHI_STATE_RUN, state_count(elements), centre_count(elements), list,
-                                 centre_count(elements) * KELUBASHI_ENTRY, answer, KELUBASHI_CHANGE_ANSWER);
+    refusal = kelubashi1_summary(states, KELUBASHI_STATE_RUN, record_count(elements, STATES), record_count(elements, CENTRES), list,
+                                 record_count(elements, CENTRES) * KELUBASHI_ENTRY, answer, KELUBASHI_CHANGE_ANSWER);
     if (refusal != 0)
         say_refused(refusal, "%s: the library's summary is", elements->name);
     return refusal == 0;
@@ -36,10 +36,10 @@ static void show_heading(void)
 static void show_centre(const struct element_file *elements, size_t centre, const uint64_t *entry)
 {
     printf("%6lu", (unsigned long)centre);
-    put_figure(15, 4, kelubashi_figure(centre_word(elements, centre)));
+    put_column(COLUMN_MU, record_word(elements, CENTRES, centre, COLUMN_MU));
     printf("   %10" PRIu64 " %10" PRIu64 "  ", entry[KELUBASHI_ENTRY_STATES], entry[KELUBASHI_ENTRY_NANS]);
-    put_figure(15, 3, kelubashi_figure(entry[KELUBASHI_ENTRY_EARLIEST]));
-    put_figure(15, 3, kelubashi_figure(entry[KELUBASHI_ENTRY_LATEST]));
+    put_column(COLUMN_EPOCH, entry[KELUBASHI_ENTRY_EARLIEST]);
+    put_column(COLUMN_EPOCH, entry[KELUBASHI_ENTRY_LATEST]);
     printf("\n");
 }
 
@@ -49,7 +49,7 @@ static void show_list(const struct element_file *elements, const uint64_t *list)
 
     show_counts(elements);
     show_heading();
-    for (k = 0; k < centre_count(elements); k++)
+    for (k = 0; k < record_count(elements, CENTRES); k++)
         show_centre(elements, k, list + k * KELUBASHI_ENTRY);
 }
 

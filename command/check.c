@@ -2,7 +2,6 @@
 **  kelubashi check: another station's rows, a line for each that is not accepted, with what our own call makes of its input.
 */
 #include "command.h"
-#include "parts/figures.h"
 #include "parts/row_file.h"
 #include "parts/say.h"
 
@@ -42,18 +41,20 @@ static void show_anomaly(uint64_t theirs, uint64_t ours)
 static void show_figures(const uint64_t *theirs, const uint64_t *ours)
 {
     size_t word, first = KELUBASHI_CHECK_X, differ = 0;
+    const struct about *about;
 
     for (word = KELUBASHI_CHECK_ROW; word-- > KELUBASHI_CHECK_X;)
         if (theirs[word] != ours[word]) {
             first = word;
             differ++;
         }
+    about = &ABOUT[row_column(first)];
     if (differ == 0)
         printf(", though it is our own answer word for word: the library contradicts itself: install it anew\n");
     else
         printf(": its psi is ours, but %s is %.17g %s, and ours %.17g %s; figures that differ: %lu of %d\n",
-               row_word_name(first), kelubashi_figure(theirs[first]), unit_of(first - KELUBASHI_CHECK_X),
-               kelubashi_figure(ours[first]), unit_of(first - KELUBASHI_CHECK_X), (unsigned long)differ, (int)FIGURES);
+               about->name, kelubashi_figure(theirs[first]), about->unit->name, kelubashi_figure(ours[first]), about->unit->name,
+               (unsigned long)differ, (int)FIGURES);
 }
 
 static void show_row(const struct row_file *rows, size_t row)

@@ -29,7 +29,7 @@ static void show_largest(const struct comparison *comparison)
     } else {
         describe_largest(comparison, difference, sizeof difference);
         printf("largest distance %" PRIu64 " last place%s: %s of row %lu, %s\n", largest_distance(comparison),
-               largest_distance(comparison) == 1 ? "" : "s", result_word_name(largest_word(comparison)),
+               largest_distance(comparison) == 1 ? "" : "s", ABOUT[result_column(largest_word(comparison))].name,
                (unsigned long)largest_row(comparison), difference);
     }
 }
@@ -127,7 +127,7 @@ static void show_compared(struct table *table, const struct comparison *comparis
     if (has_distance(comparison))
         snprintf(distance, sizeof distance, "%" PRIu64, largest_distance(comparison));
     if (largest_distance(comparison) != 0) {
-        figure = result_word_name(largest_word(comparison));
+        figure = ABOUT[result_column(largest_word(comparison))].name;
         snprintf(row, sizeof row, "%lu", (unsigned long)largest_row(comparison));
         describe_largest(comparison, difference, sizeof difference);
     }

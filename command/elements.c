@@ -12,8 +12,8 @@ enum { LONGEST = 1 << 22 };     /* bytes of the longest listing: the fullest tak
 static void say_done(const struct call *call, const struct listing *listing, size_t length)
 {
     say("%s: centres %lu, states %lu, requests %lu: the element file, %lu bytes, is written to %s", listing->name,
-        (unsigned long)listing->sections[0].count, (unsigned long)listing->sections[1].count,
-        (unsigned long)listing->sections[2].count, (unsigned long)length, output_name(call));
+        (unsigned long)listing->records[CENTRES].count, (unsigned long)listing->records[STATES].count,
+        (unsigned long)listing->records[REQUESTS].count, (unsigned long)length, output_name(call));
 }
 
 static enum status run(const struct call *call)

@@ -6,51 +6,76 @@
 #include "parts/figures.h"
 #include "parts/say.h"
 
-#include <inttypes.h>
 #include <stdio.h>
 
-static void show_centres(const struct element_file *elements)
+/* Where the unit is another than that of the figure before it, the two stand further apart. */
+static void put_gap(const struct section *section, size_t word)
 {
+    const struct unit *unit = ABOUT[section->columns[word]].unit;
+    const struct unit *before = word == 0 ? NULL : ABOUT[section->columns[word - 1]].unit;
+
+    if (unit != NULL && before != NULL && unit != before)
+        printf("  ");
+}
+
+/* The name of a column, with its unit. */
+static void put_name(enum column column)
+{
+    const struct about *about = &ABOUT[column];
+    char text[32];
+
+    snprintf(text, sizeof text, "%s%s%s", about->name, about->unit == NULL ? "" : " ", about->unit == NULL ? "" : about->unit->name);
+    printf(" %*s", column_width(column), text);
+}
+
+static void show_heading(const struct section *section)
+{
+    size_t i;
+
+    printf("\n%*s", name_width(section->name), section->name);
+    for (i = 0; i < section->width; i++) {
+        put_gap(section, i);
+        put_name(section->columns[i]);
+    }
+}
+
+static void show_record(const struct element_file *elements, size_t number, size_t record)
+{
+    const struct section *section = &elements->layout->section[number];
+    size_t i;
+
+    printf("%*lu", name_width(section->name), (unsigned long)record);
+    for (i = 0; i < section->width; i++) {
+        put_gap(section, i);
+        put_column(section->columns[i], record_word(elements, number, record, section->columns[i]));
+    }
+}
+
+/* A section as a table; requests have the interval behind their words. */
+static void show_section(const struct element_file *elements, size_t number)
+{
+    int is_requests = number == REQUESTS;
     size_t k;
 
-    printf("\ncentre     mu km^3/s^2\n");
-    for (k = 0; k < centre_count(elements); k++) {
-        printf("%6lu", (unsigned long)k);
-        put_figure(15, 4, kelubashi_figure(centre_word(elements, k)));
+    show_heading(&elements->layout->section[number]);
+    if (is_requests)
+        printf(" %*s", column_width(COLUMN_TAU), "after epoch s");
+    printf("\n");
+    for (k = 0; k < record_count(elements, number); k++) {
+        show_record(elements, number, k);
+        if (is_requests)
+            put_column(COLUMN_TAU, kelubashi_word(interval_of(elements, k)));
         printf("\n");
     }
 }
 
-static void show_states(const struct element_file *elements)
+static void show_elements(const struct element_file *elements)
 {
-    size_t k, i;
+    size_t i;
 
-    printf("\n%6s %6s %15s   %15s %15s %15s   %13s %13s %13s\n", "state", "centre", "epoch s", "x km", "y km", "z km",
-           "vx km/s", "vy km/s", "vz km/s");
-    for (k = 0; k < state_count(elements); k++) {
-        printf("%6lu %6" PRIu64, (unsigned long)k, state_word(elements, k, STATE_CENTRE));
-        put_figure(15, 3, kelubashi_figure(state_word(elements, k, STATE_EPOCH)));
-        printf("  ");
-        for (i = STATE_X; i < STATE_VX; i++)
-            put_figure(15, 6, kelubashi_figure(state_word(elements, k, i)));
-        printf("  ");
-        for (i = STATE_VX; i < KELUBASHI_STATE; i++)
-            put_figure(13, 9, kelubashi_figure(state_word(elements, k, i)));
-        printf("\n");
-    }
-}
-
-static void show_requests(const struct element_file *elements)
-{
-    size_t k;
-
-    printf("\n%7s %6s %15s %15s\n", "request", "state", "time s", "after epoch s");
-    for (k = 0; k < request_count(elements); k++) {
-        printf("%7lu %6lu", (unsigned long)k, (unsigned long)state_of(elements, k));
-        put_figure(15, 3, kelubashi_figure(request_word(elements, k, REQUEST_TIME)));
-        put_figure(15, 3, interval_of(elements, k));
-        printf("\n");
-    }
+    show_counts(elements);
+    for (i = 0; i < SECTIONS; i++)
+        show_section(elements, i);
 }
 
 static enum status run(const struct call *call)
@@ -63,12 +88,8 @@ static enum status run(const struct call *call)
         say_refused_elements(&elements);
         return SOMETHING_AMISS;
     }
-    if (!call->quiet) {
-        show_counts(&elements);
-        show_centres(&elements);
-        show_states(&elements);
-        show_requests(&elements);
-    }
+    if (!call->quiet)
+        show_elements(&elements);
     return ALL_WELL;
 }
 

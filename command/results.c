@@ -15,7 +15,7 @@ static void say_refused_requests(const struct element_file *elements, const stru
 {
     size_t request, told = 0;
 
-    for (request = 0; request < request_count(elements) && told < TOLD; request++) {
+    for (request = 0; request < record_count(elements, REQUESTS) && told < TOLD; request++) {
         uint64_t number = row_word(results, request, KELUBASHI_REFUSAL);
 
         if (number != 0) {
@@ -37,7 +37,7 @@ static void say_done(const struct call *call, const struct element_file *element
         say("%s: the refusal is written to %s", elements->name, place);
     else
         say("%s: requests %lu, refused %lu: the results are written to %s", elements->name,
-            (unsigned long)request_count(elements), (unsigned long)refused, place);
+            (unsigned long)record_count(elements, REQUESTS), (unsigned long)refused, place);
 }
 
 static enum status run(const struct call *call)
@@ -48,7 +48,7 @@ static enum status run(const struct call *call)
 
     if (!take_elements(call->operands[0], &elements) || !make_results(&elements, &results))
         return NOT_DONE;
-    refused = refused_count(&results, request_count(&elements));
+    refused = refused_count(&results, record_count(&elements, REQUESTS));
     if (elements_refusal(&elements) != 0)
         say_refused_elements(&elements);
     else

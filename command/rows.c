@@ -28,10 +28,10 @@ static int take_first(const char *word, uint64_t *first)
 /* Whether the file has a request of this number; one without requests may begin at 0. If not, it is said. */
 static int is_there(const struct element_file *elements, uint64_t first)
 {
-    if (first == 0 || first < request_count(elements))
+    if (first == 0 || first < record_count(elements, REQUESTS))
         return 1;
     say("%s: has no request %" PRIu64 ": it has %lu, numbered from 0: give --from a number below that, or leave it out",
-        elements->name, first, (unsigned long)request_count(elements));
+        elements->name, first, (unsigned long)record_count(elements, REQUESTS));
     return 0;
 }
 
@@ -92,7 +92,7 @@ static void name_next(const char *output, size_t first, size_t next, char *name,
 static void say_left(const struct call *call, const struct element_file *elements, size_t first, size_t next)
 {
     static char name[QUOTED], source[QUOTED], target[QUOTED];
-    unsigned long left = (unsigned long)(request_count(elements) - next);
+    unsigned long left = (unsigned long)(record_count(elements, REQUESTS) - next);
     const char *here = *elements->name == '-' ? "./" : "";
 
     if (call->output != NULL)
@@ -113,7 +113,7 @@ static void say_done(const struct call *call, const struct element_file *element
 static enum status write_rows(const struct call *call, const struct element_file *elements, size_t first)
 {
     static struct row_file rows;
-    size_t left = request_count(elements) - first;
+    size_t left = record_count(elements, REQUESTS) - first;
     size_t taken = left < KELUBASHI_MOST_CHECK_ROWS ? left : KELUBASHI_MOST_CHECK_ROWS;
 
     make_rows(elements, first, taken, &rows);

@@ -23,10 +23,10 @@ static void show_figures(const struct result_file *results, size_t row)
     size_t i;
 
     for (i = KELUBASHI_X; i <= KELUBASHI_Z; i++)
-        put_figure(15, 6, kelubashi_figure(row_word(results, row, i)));
+        put_column(result_column(i), row_word(results, row, i));
     printf("  ");
     for (i = KELUBASHI_VX; i <= KELUBASHI_VZ; i++)
-        put_figure(13, 9, kelubashi_figure(row_word(results, row, i)));
+        put_column(result_column(i), row_word(results, row, i));
     printf(" %6" PRIu64 "\n", row_word(results, row, KELUBASHI_POINTS));
 }
 
@@ -55,7 +55,7 @@ static void show_row(const struct element_file *elements, const struct result_fi
 /* The table; where only trouble is wanted, the refused requests alone. */
 static enum status show_rows(const struct element_file *elements, const struct result_file *results, int quiet)
 {
-    size_t row, rows = request_count(elements);
+    size_t row, rows = record_count(elements, REQUESTS);
     size_t refused = refused_count(results, rows);
 
     if (!quiet || refused != 0)

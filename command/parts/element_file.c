@@ -3,6 +3,7 @@
 #include "input.h"
 #include "say.h"
 
+#include <inttypes.h>
 #include <stdio.h>
 
 void judge_elements(struct element_file *elements)
@@ -10,6 +11,7 @@ void judge_elements(struct element_file *elements)
     uint64_t status = kelubashi1_read(elements->bytes, elements->length, elements->answer, KELUBASHI_READ_ANSWER);
 
     elements->answer[KELUBASHI_READ_REFUSAL] = status;
+    elements->layout = elements_layout(word_from(elements->bytes));
 }
 
 int take_elements(const char *name, struct element_file *elements)
@@ -28,17 +30,9 @@ uint64_t elements_refusal(const struct element_file *elements)
 
 /* ---- the place of a refusal ---- */
 
-static const struct layout LAYOUT = {
-    1, 3, {
-        { "centre", 1, { "mu" } },
-        { "state", KELUBASHI_STATE, { "the centre", "the epoch", "x", "y", "z", "vx", "vy", "vz" } },
-        { "request", KELUBASHI_REQUEST, { "the state", "the time" } }
-    }
-};
-
 void describe_place(const struct element_file *elements, uint64_t place, char *text, size_t size)
 {
-    describe_byte(&LAYOUT, elements->bytes, elements->length, place, text, size);
+    describe_byte(elements->layout, elements->bytes, elements->length, place, text, size);
 }
 
 void say_refused_elements(const struct element_file *elements)
@@ -51,90 +45,71 @@ void say_refused_elements(const struct element_file *elements)
 
 /* ---- records ---- */
 
-size_t centre_count(const struct element_file *elements)
-{
-    return (size_t)elements->answer[KELUBASHI_READ_CENTRE_COUNT];
-}
+/* In the library's answer the sections follow one another, each with the place of its count and the count. */
+enum { PER_SECTION = KELUBASHI_READ_STATES - KELUBASHI_READ_CENTRES };
 
-size_t state_count(const struct element_file *elements)
+size_t record_count(const struct element_file *elements, size_t section)
 {
-    return (size_t)elements->answer[KELUBASHI_READ_STATE_COUNT];
-}
-
-size_t request_count(const struct element_file *elements)
-{
-    return (size_t)elements->answer[KELUBASHI_READ_REQUEST_COUNT];
+    return (size_t)elements->answer[KELUBASHI_READ_CENTRE_COUNT + PER_SECTION * section];
 }
 
 void show_counts(const struct element_file *elements)
 {
-    printf("%s: element file of edition 1, %lu bytes: centres %lu, states %lu, requests %lu\n", elements->name,
-           (unsigned long)elements->length, (unsigned long)centre_count(elements), (unsigned long)state_count(elements),
-           (unsigned long)request_count(elements));
+    printf("%s: element file of edition %" PRIu64 ", %lu bytes: centres %lu, states %lu, requests %lu\n", elements->name,
+           elements->layout->edition, (unsigned long)elements->length, (unsigned long)record_count(elements, CENTRES),
+           (unsigned long)record_count(elements, STATES), (unsigned long)record_count(elements, REQUESTS));
 }
 
-/* The place of a word of a record, the records standing behind the count of their section. */
-static size_t record_place(const struct element_file *elements, int section, size_t record, size_t width, size_t word)
+/* The place of a word by its number, the records standing behind the count of their section. */
+static size_t word_place(const struct element_file *elements, size_t section, size_t record, size_t word)
 {
-    return (size_t)elements->answer[section] + 8 + 8 * (record * width + word);
+    size_t place = (size_t)elements->answer[KELUBASHI_READ_CENTRES + PER_SECTION * section];
+
+    return place + 8 + 8 * (record * elements->layout->section[section].width + word);
 }
 
-size_t centre_place(const struct element_file *elements, size_t centre)
+size_t record_place(const struct element_file *elements, size_t section, size_t record, enum column column)
 {
-    return record_place(elements, KELUBASHI_READ_CENTRES, centre, 1, 0);
+    return word_place(elements, section, record, word_number(&elements->layout->section[section], column));
 }
 
-size_t state_place(const struct element_file *elements, size_t state, size_t word)
+uint64_t record_word(const struct element_file *elements, size_t section, size_t record, enum column column)
 {
-    return record_place(elements, KELUBASHI_READ_STATES, state, KELUBASHI_STATE, word);
-}
-
-size_t request_place(const struct element_file *elements, size_t request, size_t word)
-{
-    return record_place(elements, KELUBASHI_READ_REQUESTS, request, KELUBASHI_REQUEST, word);
-}
-
-uint64_t centre_word(const struct element_file *elements, size_t centre)
-{
-    return word_from(elements->bytes + centre_place(elements, centre));
-}
-
-uint64_t state_word(const struct element_file *elements, size_t state, size_t word)
-{
-    return word_from(elements->bytes + state_place(elements, state, word));
-}
-
-uint64_t request_word(const struct element_file *elements, size_t request, size_t word)
-{
-    return word_from(elements->bytes + request_place(elements, request, word));
+    return word_from(elements->bytes + record_place(elements, section, record, column));
 }
 
 void copy_states(const struct element_file *elements, uint64_t *run)
 {
-    size_t state, word;
+    size_t width = elements->layout->section[STATES].width, state, word;
 
-    for (state = 0; state < state_count(elements); state++)
-        for (word = 0; word < KELUBASHI_STATE; word++)
-            run[state * KELUBASHI_STATE + word] = state_word(elements, state, word);
+    for (state = 0; state < record_count(elements, STATES); state++)
+        for (word = 0; word < width; word++)
+            *run++ = word_from(elements->bytes + word_place(elements, STATES, state, word));
+}
+
+size_t centre_of(const struct element_file *elements, size_t state)
+{
+    return (size_t)record_word(elements, STATES, state, COLUMN_CENTRE);
 }
 
 size_t state_of(const struct element_file *elements, size_t request)
 {
-    return (size_t)request_word(elements, request, REQUEST_STATE);
+    return (size_t)record_word(elements, REQUESTS, request, COLUMN_STATE);
 }
 
 double interval_of(const struct element_file *elements, size_t request)
 {
-    return kelubashi_figure(request_word(elements, request, REQUEST_TIME)) -
-           kelubashi_figure(state_word(elements, state_of(elements, request), STATE_EPOCH));
+    return kelubashi_figure(record_word(elements, REQUESTS, request, COLUMN_TIME)) -
+           kelubashi_figure(record_word(elements, STATES, state_of(elements, request), COLUMN_EPOCH));
 }
 
 void request_input(const struct element_file *elements, size_t request, uint64_t *words)
 {
-    size_t state = state_of(elements, request), word;
+    size_t state = state_of(elements, request);
+    enum column column;
 
-    *words++ = centre_word(elements, (size_t)state_word(elements, state, STATE_CENTRE));
-    for (word = STATE_X; word < KELUBASHI_STATE; word++)
-        *words++ = state_word(elements, state, word);
+    *words++ = record_word(elements, CENTRES, centre_of(elements, state), COLUMN_MU);
+    for (column = COLUMN_X; column <= COLUMN_VZ; column++)
+        *words++ = record_word(elements, STATES, state, column);
     *words = kelubashi_word(interval_of(elements, request));
 }

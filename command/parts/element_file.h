@@ -6,12 +6,10 @@
 
 #include "place.h"
 
-/* The words of a state and of a request. */
-enum { STATE_CENTRE = 0, STATE_EPOCH = 1, STATE_X = 2, STATE_VX = 5, REQUEST_STATE = 0, REQUEST_TIME = 1 };
-
 struct element_file {
     const char *name;
     size_t length;
+    const struct layout *layout;                /* that of its edition */
     uint64_t answer[KELUBASHI_READ_ANSWER];     /* kelubashi1_read's */
     uint8_t bytes[KELUBASHI_MOST_FILE + 1];     /* one more than any file that is accepted can have */
 };
@@ -31,18 +29,12 @@ void say_refused_elements(const struct element_file *elements);
 /* What stands at a byte of the file: "at byte 48, x of state 0", in PLACE_TEXT bytes at most. */
 void describe_place(const struct element_file *elements, uint64_t place, char *text, size_t size);
 
-/* How many there are, and a word of one of them; for a file that is accepted. */
-size_t centre_count(const struct element_file *elements);
-size_t state_count(const struct element_file *elements);
-size_t request_count(const struct element_file *elements);
-uint64_t centre_word(const struct element_file *elements, size_t centre);
-uint64_t state_word(const struct element_file *elements, size_t state, size_t word);
-uint64_t request_word(const struct element_file *elements, size_t request, size_t word);
+/* How many records a section has, CENTRES and so on, and a word of one of them; for a file that is accepted. */
+size_t record_count(const struct element_file *elements, size_t section);
+uint64_t record_word(const struct element_file *elements, size_t section, size_t record, enum column column);
 
-/* The bytes at which these words stand. */
-size_t centre_place(const struct element_file *elements, size_t centre);
-size_t state_place(const struct element_file *elements, size_t state, size_t word);
-size_t request_place(const struct element_file *elements, size_t request, size_t word);
+/* The byte at which this word stands. */
+size_t record_place(const struct element_file *elements, size_t section, size_t record, enum column column);
 
 /* A line with the file and how many there are. */
 void show_counts(const struct element_file *elements);
@@ -50,7 +42,8 @@ void show_counts(const struct element_file *elements);
 /* All states, as the first of a run of KELUBASHI_STATE_RUN words; the words behind them are left. */
 void copy_states(const struct element_file *elements, uint64_t *run);
 
-/* The state of a request, and how long after its epoch the request's time is, in s. */
+/* The centre of a state; the state of a request, and how long after its epoch the request's time is, in s. */
+size_t centre_of(const struct element_file *elements, size_t state);
 size_t state_of(const struct element_file *elements, size_t request);
 double interval_of(const struct element_file *elements, size_t request);
 

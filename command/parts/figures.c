@@ -1,11 +1,11 @@
 #include "figures.h"
 
-#include "kelubashi.h"
-
 #include <errno.h>
+#include <inttypes.h>
 #include <math.h>
 #include <stdio.h>
 #include <stdlib.h>
+#include <string.h>
 
 const char *take_figure(const char *text, int any_bits, uint64_t *word)
 {
@@ -38,22 +38,37 @@ const char *take_number(const char *text, uint64_t *number)
     return errno == ERANGE ? "is out of the range of numbers" : NULL;
 }
 
-void put_figure(int width, int digits, double figure)
+int name_width(const char *name)
+{
+    int width = (int)strlen(name);
+
+    return width < 6 ? 6 : width;
+}
+
+int column_width(enum column column)
+{
+    const struct unit *unit = ABOUT[column].unit;
+
+    return unit == NULL ? name_width(ABOUT[column].name) : unit->width;
+}
+
+static void put_figure(const struct unit *unit, double figure)
 {
     double size = fabs(figure), most = 1;
     int i;
 
-    for (i = digits + 2; i < width; i++)    /* sign and point */
+    for (i = unit->digits + 2; i < unit->width; i++)    /* sign and point */
         most *= 10;
     if (size < most)
-        printf(" %*.*f", width, digits, figure);
+        printf(" %*.*f", unit->width, unit->digits, figure);
     else
-        printf(" %*.*g", width, width - 8, figure);     /* sign, point, e+308 */
+        printf(" %*.*g", unit->width, unit->width - 8, figure);     /* sign, point, e+308 */
 }
 
-const char *unit_of(size_t figure)
+void put_column(enum column column, uint64_t word)
 {
-    static const char *const UNITS[] = { "km", "km/s", "km/s^2" };
-
-    return UNITS[figure / 3];
+    if (ABOUT[column].kind == FIGURE)
+        put_figure(ABOUT[column].unit, kelubashi_figure(word));
+    else
+        printf(" %*" PRIu64, column_width(column), word);
 }

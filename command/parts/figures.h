@@ -4,8 +4,7 @@
 #ifndef FIGURES_H
 #define FIGURES_H
 
-#include <stddef.h>
-#include <stdint.h>
+#include "formats.h"
 
 /* The word of a text that is a figure as a whole: a null pointer, or what is wrong with it. */
 const char *take_figure(const char *text, int any_bits, uint64_t *word);
@@ -13,10 +12,11 @@ const char *take_figure(const char *text, int any_bits, uint64_t *word);
 /* The number of a record that a text is as a whole: a null pointer, or what is wrong with it. */
 const char *take_number(const char *text, uint64_t *number);
 
-/* A space, and a figure in a column of this width; with so many digits behind the point where that has room. */
-void put_figure(int width, int digits, double figure);
+/* How wide a column of numbers is in a table, by the name above it; and any column, by its unit where it has one. */
+int name_width(const char *name);
+int column_width(enum column column);
 
-/* The unit of one of the nine figures at the end, counted from x on: three of position, of velocity, of acceleration. */
-const char *unit_of(size_t figure);
+/* A space, and a word in its column; of a figure so many digits behind the point as its unit has, where there is room. */
+void put_column(enum column column, uint64_t word);
 
 #endif

@@ -6,16 +6,9 @@
 #include <inttypes.h>
 #include <string.h>
 
-enum { LINE = 500 };    /* bytes of the longest line */
-
-/* What a section's lines are: a name, then its words. The first so many are numbers of records, the others figures. */
-static const struct kind {
-    const char *name;
-    size_t width, limit, numbers;
-} KINDS[SECTIONS] = {
-    { "centre", 1, KELUBASHI_MOST_CENTRES, 0 },
-    { "state", KELUBASHI_STATE, KELUBASHI_MOST_STATES, 1 },
-    { "request", KELUBASHI_REQUEST, KELUBASHI_MOST_REQUESTS, 1 }
+enum {
+    LINE = 500,     /* bytes of the longest line */
+    EDITION = 1     /* of the element file */
 };
 
 static const char BETWEEN[] = " \t";
@@ -34,22 +27,28 @@ static int bad_word(const struct listing *listing, unsigned long line, const cha
     return 0;
 }
 
+/* A word of a record, by what its column holds: a null pointer, or what is wrong with it. */
+static const char *take_word(const struct listing *listing, enum column column, const char *text, uint64_t *word)
+{
+    return ABOUT[column].kind == NUMBER ? take_number(text, word) : take_figure(text, listing->any_bits, word);
+}
+
 /* The words behind a record's name, which strtok has at hand. */
-static int take_record(const struct listing *listing, const struct kind *kind, uint64_t *words, unsigned long line)
+static int take_record(const struct listing *listing, const struct section *section, uint64_t *words, unsigned long line)
 {
     const char *word;
     size_t i;
 
-    for (i = 0; i < kind->width; i++) {
+    for (i = 0; i < section->width; i++) {
         const char *wrong;
 
         word = strtok(NULL, BETWEEN);
         if (word == NULL) {
-            say("%s: line %lu: a %s has %lu words behind its name, and here are %lu", listing->name, line, kind->name,
-                (unsigned long)kind->width, (unsigned long)i);
+            say("%s: line %lu: a %s has %lu words behind its name, and here are %lu", listing->name, line, section->name,
+                (unsigned long)section->width, (unsigned long)i);
             return 0;
         }
-        wrong = i < kind->numbers ? take_number(word, words + i) : take_figure(word, listing->any_bits, words + i);
+        wrong = take_word(listing, section->columns[i], word, words + i);
         if (wrong != NULL)
             return bad_word(listing, line, word, wrong);
     }
@@ -57,10 +56,19 @@ static int take_record(const struct listing *listing, const struct kind *kind, u
     return word == NULL || bad_word(listing, line, word, "is one word too many");
 }
 
+/* A record more, as long as there are not more than one beyond the limit. */
+static void add_record(struct records *records, const struct section *section, const uint64_t *words, unsigned long line)
+{
+    if (records->count > section->limit)
+        return;
+    memcpy(records->words + records->count * section->width, words, section->width * sizeof *words);
+    records->lines[records->count++] = line;
+}
+
 /* The record of a line, if it has one. */
 static int take_line(struct listing *listing, char *text, unsigned long line)
 {
-    uint64_t words[KELUBASHI_STATE];
+    uint64_t words[MOST_WIDTH];
     const char *name;
     size_t i;
 
@@ -68,18 +76,16 @@ static int take_line(struct listing *listing, char *text, unsigned long line)
     name = strtok(text, BETWEEN);
     if (name == NULL)
         return 1;
-    for (i = 0; i < SECTIONS; i++)
-        if (strcmp(KINDS[i].name, name) == 0) {
-            struct section *section = &listing->sections[i];
+    for (i = 0; i < SECTIONS; i++) {
+        const struct section *section = &listing->layout->section[i];
 
-            if (!take_record(listing, &KINDS[i], words, line))
+        if (strcmp(section->name, name) == 0) {
+            if (!take_record(listing, section, words, line))
                 return 0;
-            if (section->count <= KINDS[i].limit) {
-                memcpy(section->words + section->count * KINDS[i].width, words, KINDS[i].width * sizeof *words);
-                section->lines[section->count++] = line;
-            }
+            add_record(&listing->records[i], section, words, line);
             return 1;
         }
+    }
     return bad_word(listing, line, name, "is no name of a record: a line starts with centre, state or request");
 }
 
@@ -110,6 +116,7 @@ int take_listing(const char *name, const uint8_t *bytes, size_t length, int any_
     memset(listing, 0, sizeof *listing);
     listing->name = name;
     listing->any_bits = any_bits;
+    listing->layout = elements_layout(EDITION);
     for (line = 1; at < length; line++) {
         const uint8_t *end = (const uint8_t *)memchr(bytes + at, '\n', length - at);
         size_t here = end == NULL ? length - at : (size_t)(end - (bytes + at));
@@ -130,27 +137,33 @@ static unsigned long line_of(const struct listing *listing, uint64_t place)
     size_t i;
 
     for (i = 0; i < SECTIONS; i++) {
-        const struct section *section = &listing->sections[i];
-        uint64_t record = 8 * KINDS[i].width;
+        const struct section *section = &listing->layout->section[i];
+        const struct records *records = &listing->records[i];
+        uint64_t record = 8 * section->width;
 
         if (place == at)
-            return section->lines[KINDS[i].limit];
+            return records->lines[section->limit];
         at += 8;
-        if (place < at + record * section->count)
-            return section->lines[(place - at) / record];
-        at += record * section->count;
+        if (place < at + record * records->count)
+            return records->lines[(place - at) / record];
+        at += record * records->count;
     }
     return 0;
 }
 
+/* How many words the records of a section are. */
+static size_t words_of(const struct listing *listing, size_t section)
+{
+    return listing->records[section].count * listing->layout->section[section].width;
+}
+
 int make_elements(const struct listing *listing, uint8_t *room, size_t size, size_t *length)
 {
-    const struct section *centres = &listing->sections[0], *states = &listing->sections[1];
-    const struct section *requests = &listing->sections[2];
     uint64_t answer[KELUBASHI_WRITE_ANSWER] = { 0, 0 };
-    uint64_t refusal = kelubashi1_write(centres->words, centres->count, states->words, states->count * KELUBASHI_STATE,
-                                        requests->words, requests->count * KELUBASHI_REQUEST, room, size,
-                                        answer, KELUBASHI_WRITE_ANSWER);
+    uint64_t refusal = kelubashi1_write(listing->records[CENTRES].words, words_of(listing, CENTRES),
+                                        listing->records[STATES].words, words_of(listing, STATES),
+                                        listing->records[REQUESTS].words, words_of(listing, REQUESTS),
+                                        room, size, answer, KELUBASHI_WRITE_ANSWER);
 
     *length = (size_t)answer[KELUBASHI_WRITE_LENGTH];
     if (refusal != 0)

@@ -4,21 +4,20 @@
 #ifndef LISTING_H
 #define LISTING_H
 
-#include "kelubashi.h"
+#include "formats.h"
 
-enum { SECTIONS = 3, MOST_WORDS = (KELUBASHI_MOST_STATES + 1) * KELUBASHI_STATE };
-
-/* A section's records, with the line that each stands in. One beyond the limit is kept, for the library to refuse. */
-struct section {
+/* The records of a section, with the line that each stands in. One beyond the limit is kept, for the library to refuse. */
+struct records {
     size_t count;
     uint64_t words[MOST_WORDS];
-    unsigned long lines[KELUBASHI_MOST_REQUESTS + 1];
+    unsigned long lines[MOST_RECORDS];
 };
 
 struct listing {
     const char *name;
     int any_bits;
-    struct section sections[SECTIONS];      /* centres, states, requests */
+    const struct layout *layout;            /* of the element file that is made of it */
+    struct records records[SECTIONS];
 };
 
 /* Takes a listing's bytes apart. False where a line is not good, which is then said with its number. */

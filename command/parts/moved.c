@@ -1,6 +1,5 @@
 #include "moved.h"
 
-#include "figures.h"
 #include "say.h"
 
 #include <inttypes.h>
@@ -14,7 +13,7 @@ void describe_difference(const struct comparison *comparison, size_t row, size_t
 {
     double reference = kelubashi_figure(row_word(&comparison->reference, row, word));
     double difference = kelubashi_figure(row_word(&comparison->results, row, word)) - reference;
-    const char *unit = unit_of(word - KELUBASHI_X);
+    const char *unit = ABOUT[result_column(word)].unit->name;
 
     if (isfinite(difference))
         snprintf(text, size, "%+.3g %s", difference, unit);
@@ -37,7 +36,7 @@ static void show_figure(const struct comparison *comparison, size_t row, size_t 
 {
     char difference[DIFFERENCE_TEXT];
 
-    printf("%4lu  %-6s", (unsigned long)row, result_word_name(word));
+    printf("%4lu  %-6s", (unsigned long)row, ABOUT[result_column(word)].name);
     if (figure_kind(comparison, row, word) == KELUBASHI_FIGURE_DISTANCE) {
         describe_difference(comparison, row, word, difference, sizeof difference);
         printf(" %20" PRIu64 "  %21s", figure_distance(comparison, row, word), difference);

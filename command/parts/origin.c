@@ -16,11 +16,12 @@ static int is_finite(uint64_t word)
 static void describe_interval(const struct element_file *elements, size_t request, char *text, size_t size)
 {
     size_t state = state_of(elements, request);
-    int epoch = is_finite(state_word(elements, state, STATE_EPOCH)), time = is_finite(request_word(elements, request, REQUEST_TIME));
+    int epoch = is_finite(record_word(elements, STATES, state, COLUMN_EPOCH));
+    int time = is_finite(record_word(elements, REQUESTS, request, COLUMN_TIME));
     char first[PLACE_TEXT], second[PLACE_TEXT];
 
-    describe_place(elements, state_place(elements, state, STATE_EPOCH), first, sizeof first);
-    describe_place(elements, request_place(elements, request, REQUEST_TIME), second, sizeof second);
+    describe_place(elements, record_place(elements, STATES, state, COLUMN_EPOCH), first, sizeof first);
+    describe_place(elements, record_place(elements, REQUESTS, request, COLUMN_TIME), second, sizeof second);
     if (epoch != time)
         snprintf(text, size, "%s", epoch ? second : first);
     else
@@ -32,9 +33,9 @@ int describe_origin(const struct element_file *elements, size_t request, uint64_
     size_t state = state_of(elements, request);
 
     if (refusal == MU)
-        describe_place(elements, centre_place(elements, (size_t)state_word(elements, state, STATE_CENTRE)), text, size);
+        describe_place(elements, record_place(elements, CENTRES, centre_of(elements, state), COLUMN_MU), text, size);
     else if (refusal >= X && refusal <= VZ)
-        describe_place(elements, state_place(elements, state, STATE_X + (size_t)(refusal - X)), text, size);
+        describe_place(elements, record_place(elements, STATES, state, COLUMN_X + (enum column)(refusal - X)), text, size);
     else if (refusal == TAU)
         describe_interval(elements, request, text, size);
     else

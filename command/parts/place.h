@@ -4,27 +4,9 @@
 #ifndef PLACE_H
 #define PLACE_H
 
-#include "kelubashi.h"
+#include "formats.h"
 
-enum {
-    MOST_SECTIONS = 3,
-    MOST_WORDS = KELUBASHI_CHECK_ROW,   /* of a record of any file */
-    PLACE_TEXT = 96                     /* bytes that describe_byte needs at most */
-};
-
-/* A section: a count, then so many records of these words. */
-struct records {
-    const char *name;
-    size_t width;
-    const char *words[MOST_WORDS];
-};
-
-/* A file: its edition, if it has one, then its sections. */
-struct layout {
-    int has_edition;
-    size_t sections;
-    struct records section[MOST_SECTIONS];
-};
+enum { PLACE_TEXT = 96 };   /* bytes that describe_byte needs at most */
 
 /*
 **  What stands at a byte: "at byte 48, x of state 0". It is found by the counts before it, which are good in a file that is

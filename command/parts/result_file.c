@@ -14,15 +14,9 @@ enum {
 
 #define MAKE_ANEW "make it anew with kelubashi results"
 
-static const struct layout LAYOUT = {
-    1, 1, {
-        { "row", KELUBASHI_ROW, { "the refusal", "the count of points", "x", "y", "z", "vx", "vy", "vz", "ax", "ay", "az" } }
-    }
-};
-
-const char *result_word_name(size_t word)
+enum column result_column(size_t word)
 {
-    return LAYOUT.section[0].words[word];
+    return RESULTS_LAYOUT.section[0].columns[word];
 }
 
 int make_results(const struct element_file *elements, struct result_file *results)
@@ -86,7 +80,7 @@ void say_refused_results(const struct result_file *results, uint64_t refusal, ui
             word_of(results, 2), kelubashi_refusal_text(word_of(results, 2)));
         return;
     }
-    describe_byte(&LAYOUT, results->bytes, results->length, place, text, sizeof text);
+    describe_byte(&RESULTS_LAYOUT, results->bytes, results->length, place, text, sizeof text);
     say_refused(refusal, "%s: %s:", results->name, text);
 }
 
@@ -95,7 +89,7 @@ void say_refused_results(const struct result_file *results, uint64_t refusal, ui
 /* Whether a result file that counts so many rows can have this length. */
 static int is_length(uint64_t rows, size_t length)
 {
-    if (rows > KELUBASHI_MOST_REQUESTS)
+    if (rows > RESULTS_LAYOUT.section[0].limit)
         return 0;
     return length == HEAD + ROW_BYTES * (size_t)rows || (rows == 0 && length == REFUSED_FILE);
 }
@@ -137,31 +131,32 @@ static int is_alike(const struct result_file *results, const struct result_file 
     return 0;
 }
 
-/* A word of a row as it is read: the first two are whole numbers, the others the words of doubles. */
-static void describe_word(size_t word, uint64_t value, char *text, size_t size)
+/* A word of a row as it is read: of figures the words of their doubles. */
+static void describe_word(const struct about *about, uint64_t value, char *text, size_t size)
 {
-    if (word < KELUBASHI_X)
-        snprintf(text, size, "%" PRIu64, value);
-    else
+    if (about->kind == FIGURE)
         snprintf(text, size, "%016" PRIX64, value);
+    else
+        snprintf(text, size, "%" PRIu64, value);
 }
 
 /* The first word in which it is not what the library answers now. */
 static void say_difference(const struct result_file *results, const struct result_file *right,
                            const struct element_file *elements, size_t word)
 {
-    size_t in_rows = word - HEAD / 8, in_row = in_rows % KELUBASHI_ROW;
+    size_t in_rows = word - HEAD / 8;
+    const struct about *about = &ABOUT[result_column(in_rows % KELUBASHI_ROW)];
     char here[24], there[24];
 
-    describe_word(in_row, word_of(results, word), here, sizeof here);
-    describe_word(in_row, word_of(right, word), there, sizeof there);
+    describe_word(about, word_of(results, word), here, sizeof here);
+    describe_word(about, word_of(right, word), there, sizeof there);
     if (right->length == REFUSED_FILE)
         say("%s: is of another element file, one that is refused (%" PRIu64 "), and %s is refused (%" PRIu64 "): " FOREIGN,
             results->name, word_of(results, word), elements->name, word_of(right, word));
     else
-        say("%s: is of another element file, of another library, or damaged: in row %lu %s is %s, and the library answers %s "
-            "to request %lu of %s: " FOREIGN, results->name, (unsigned long)(in_rows / KELUBASHI_ROW),
-            result_word_name(in_row), here, there, (unsigned long)(in_rows / KELUBASHI_ROW), elements->name);
+        say("%s: is of another element file, of another library, or damaged: in row %lu %s%s is %s, and the library answers %s "
+            "to request %lu of %s: " FOREIGN, results->name, (unsigned long)(in_rows / KELUBASHI_ROW), about->article,
+            about->name, here, there, (unsigned long)(in_rows / KELUBASHI_ROW), elements->name);
 }
 
 int are_results_of(const struct result_file *results, const struct element_file *elements)

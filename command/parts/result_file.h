@@ -24,10 +24,10 @@ int are_results_of(const struct result_file *results, const struct element_file 
 /* Says why the library refuses it, by a number that has a place: the byte, and what stands there. */
 void say_refused_results(const struct result_file *results, uint64_t refusal, uint64_t place);
 
-/* How many rows it counts, a word of one of them, and the word's name, such as "vx"; for a file that is whole. */
+/* How many rows it counts, a word of one of them, and the word's column; for a file that is whole. */
 uint64_t result_rows(const struct result_file *results);
 uint64_t row_word(const struct result_file *results, size_t row, size_t word);
-const char *result_word_name(size_t word);
+enum column result_column(size_t word);
 
 /* How many rows of a sound result file are refused. */
 size_t refused_count(const struct result_file *results, size_t rows);

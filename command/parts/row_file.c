@@ -10,18 +10,9 @@ enum { ROW_BYTES = 8 * KELUBASHI_CHECK_ROW };
 
 /* ---- words ---- */
 
-static const struct layout LAYOUT = {
-    0, 1, {
-        { "row", KELUBASHI_CHECK_ROW, {
-            "mu", "x", "y", "z", "vx", "vy", "vz", "tau", "psi",
-            "end x", "end y", "end z", "end vx", "end vy", "end vz", "end ax", "end ay", "end az"
-        } }
-    }
-};
-
-const char *row_word_name(size_t word)
+enum column row_column(size_t word)
 {
-    return LAYOUT.section[0].words[word];
+    return ROWS_LAYOUT.section[0].columns[word];
 }
 
 static size_t row_place(size_t row)
@@ -53,7 +44,7 @@ static void say_refused_rows(const struct row_file *rows, uint64_t refusal, uint
         say_refused(refusal, "%s: the library's verdicts are", rows->name);
         return;
     }
-    describe_byte(&LAYOUT, rows->bytes, rows->length, place, text, sizeof text);
+    describe_byte(&ROWS_LAYOUT, rows->bytes, rows->length, place, text, sizeof text);
     say_refused(refusal, "%s: %s:", rows->name, text);
 }
 

@@ -4,7 +4,7 @@
 #ifndef ROW_FILE_H
 #define ROW_FILE_H
 
-#include "kelubashi.h"
+#include "formats.h"
 
 struct row_file {
     const char *name;
@@ -28,7 +28,7 @@ void add_row(struct row_file *rows, const uint64_t *words);
 /* Puts the library's own anomaly and figures behind the input words of a row. Its refusal, or 0. */
 uint64_t answer_row(uint64_t *words);
 
-/* A word of a row by name, such as "end x". */
-const char *row_word_name(size_t word);
+/* The column of a word of a row. */
+enum column row_column(size_t word);
 
 #endif

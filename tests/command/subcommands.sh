@@ -36,6 +36,28 @@ shows '     0     398600.4418'
 shows '     0      0           0.000       1131.340000    -2282.343000     6672.423000    -5.643050000   4.303330000   2.428790000'
 shows '      0      0         600.000         600.000'
 says ''
+printf '%s\n' 'centre 398600.4418' 'centre -1e300' 'state 1 -0.0625 1131.340 -2282.343 6672.423 -5.64305 4.30333 2.42879' \
+    'state 0 1e20 inf -0 1234567.25 0 -12345 1e-9' 'request 1 inf' 'request 0 86400.5' 'request 0 -1e15' >"$room/wide.txt"
+kelubashi 0 elements -q --any-bits "$room/wide.txt" -o "$room/wide"
+kelubashi 0 read "$room/wide"
+cat >"$room/table" <<TABLE
+$room/wide: element file of edition 1, 224 bytes: centres 2, states 2, requests 3
+
+centre     mu km^3/s^2
+     0     398600.4418
+     1         -1e+300
+
+ state centre         epoch s              x km            y km            z km         vx km/s       vy km/s       vz km/s
+     0      1          -0.062       1131.340000    -2282.343000     6672.423000    -5.643050000   4.303330000   2.428790000
+     1      0           1e+20               inf       -0.000000  1234567.250000     0.000000000        -12345   0.000000001
+
+request  state          time s   after epoch s
+      0      1             inf             inf
+      1      0       86400.500       86400.562
+      2      0          -1e+15          -1e+15
+TABLE
+writes "$room/table"
+says ''
 kelubashi 0 read -q "$good"
 writes_nothing
 says ''
