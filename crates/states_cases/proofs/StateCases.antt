@@ -4,35 +4,8 @@
 use mathlib.Core.Path.{_≡_, refl}
 use mathlib.Core.List.{List, [], _∷_, _++_, map}
 use Prim.Native.Nat.{ℕ}
-use lib.Ieee.{binary64, add, sub, mul, div, neg, lt, eq, ne, ofInt, ofBits, toBits}
-use Rattle.bits.specs.Runs.{firstOf, has}
-use Rattle.bits.specs.Root.{rootWordOf, rootOf}
-use Rattle.series.specs.Series.{beyondOne, reducedFrom, nested, c4Of, c5Of, atReduced, doublings, quotientsOf, coefficientsOf, sumsOf}
-use Rattle.search_points.specs.Residual.{timeErrorOf, radiusOf}
-use Rattle.search_points.specs.Trial.{anomalyAt, sortOf, evaluatedAt, trialAt}
-use Rattle.search_rule.specs.Rule.{onward, outward, halving, round, inward, history, counted}
-use Rattle.search_rule.specs.Nearer.{nearerEnd}
-use Rattle.search_proposals.specs.Proposals.{offeredAt, byRadius, byInterval, byEnds, proposed}
-use Rattle.search.specs.Search.{searchChoosing}
-use Rattle.states_revolutions.specs.Floor.{floorOf}
-use Rattle.states_revolutions.specs.Revolutions.{revolutionOf, isClosed, isUsable, courseOf, asItIs, withoutN, withoutRevolutions, intervalOf}
-use Rattle.states_arcs.specs.Results.{factorsOf, endStateOf, arcOf, accelerationOf, resultsOf, figuresOf, endedOf}
-use Rattle.states_start.specs.Given.{readOf}
-use Rattle.states_start.specs.Initial.{dot, begunOf, firstStepOf}
-use Rattle.states.specs.Call.{
-  orbitWords,
-  refused,
-  answered,
-  reachedFound,
-  reachedOverBy,
-  reachedFromBy,
-  reachedOrbitBy,
-  reachedWordsBy,
-  endedAnswer,
-  propagateBy,
-  propagateOf,
-  answerWords,
-}
+use Rattle.states.specs.Call.{orbitWords, propagateOf, answerWords}
+use Rattle.states.proofs.Computed.{stateAnswer, refusedWith}
 
 -- What is asked, and the refusal and the points of the answer.
 record Row : Type 0 where
@@ -82,28 +55,14 @@ eight =
     straight 0 0x26f0000000000000 0 0x26f0000000000000 8 21
     (straight 0x7e70000000000000 0x3eb0000000000000 0 0 8 0 [])
 
--- "A refusal carries the trial points used so far .., all other figures +0".
-abbrev refusedWith : (refusal points : ℕ) → List ℕ
-refusedWith refusal points = refusal ∷ points ∷ 0 ∷ 0 ∷ 0 ∷ 0 ∷ 0 ∷ 0 ∷ 0 ∷ 0 ∷ 0 ∷ 0 ∷ 0 ∷ 0 ∷ 0 ∷ []
-
 -- Each row is answered as it says.
 abbrev Answered : List Row → Type 0
 Answered rows = map (λ (r : Row). answerWords (propagateOf (r .words))) rows ≡ map (λ (r : Row). refusedWith (r .refusal) (r .points)) rows
 
 four-five-six-eight : Answered (four ++ (five ++ (six ++ eight)))
-unfolding
-    propagateBy answerWords reachedWordsBy reachedOrbitBy reachedFromBy reachedOverBy reachedFound
-    intervalOf withoutRevolutions withoutN asItIs floorOf courseOf isClosed isUsable revolutionOf ofInt endedAnswer answered refused readOf begunOf
-    dot firstStepOf endedOf figuresOf resultsOf accelerationOf arcOf endStateOf factorsOf has firstOf searchChoosing history inward round halving
-    outward onward counted trialAt evaluatedAt sortOf anomalyAt timeErrorOf radiusOf coefficientsOf sumsOf quotientsOf doublings atReduced c4Of c5Of
-    nested reducedFrom beyondOne rootOf rootWordOf offeredAt byRadius byInterval byEnds proposed nearerEnd add sub mul div neg lt eq ne ofBits toBits
+unfolding stateAnswer
 four-five-six-eight = refl
 
 sevens : Answered seven
-unfolding
-    propagateBy answerWords reachedWordsBy reachedOrbitBy reachedFromBy reachedOverBy reachedFound
-    intervalOf withoutRevolutions withoutN asItIs floorOf courseOf isClosed isUsable revolutionOf ofInt endedAnswer answered refused readOf begunOf
-    dot firstStepOf endedOf figuresOf resultsOf accelerationOf arcOf endStateOf factorsOf has firstOf searchChoosing history inward round halving
-    outward onward counted trialAt evaluatedAt sortOf anomalyAt timeErrorOf radiusOf coefficientsOf sumsOf quotientsOf doublings atReduced c4Of c5Of
-    nested reducedFrom beyondOne rootOf rootWordOf offeredAt byRadius byInterval byEnds proposed nearerEnd add sub mul div neg lt eq ne ofBits toBits
+unfolding stateAnswer
 sevens = refl

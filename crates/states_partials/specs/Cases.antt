@@ -1,7 +1,8 @@
 -- The 36 partials of three arcs, evaluated from the definitions: of the lower crate's case, and of two with whole revolutions. The
 -- figures come from an independent program.
 use mathlib.Core.Path.{_≡_, refl}
-use mathlib.Core.List.{[], _∷_}
+use mathlib.Core.List.{List, [], _∷_}
+use Prim.Native.Nat.{ℕ}
 use mathlib.Core.Bool.{false}
 use lib.Ieee.{add, sub, mul, div, neg, lt, eq, ofInt, ofBits, toBits}
 use Rattle.bits.specs.Arithmetic.{n0}
@@ -14,12 +15,21 @@ use Rattle.states_revolutions.specs.declared.figures.Course.{Course}
 use Rattle.states_revolutions.specs.declared.figures.Course.the-variants.{Closed}
 use Rattle.states_start.specs.declared.figures.Start.{Start}
 use Rattle.states_arcs.specs.Results.{factorsOf, endStateOf, arcOf}
+use Rattle.states_arcs.specs.declared.figures.Arc.{Arc}
 use Rattle.states_arcs.specs.Cases.{ofWord, vector, arc}
 use Rattle.states_revolutions.specs.Revolutions.{asItIs, withoutN, withoutRevolutions, intervalOf}
 use Rattle.states_partials.specs.U.{uAtFound, wholeAnomalyOf, wholeSumsOf, uAtWhole, uOf, uRefused}
 use Rattle.states_partials.specs.Matrix.{matrixOf}
 use Rattle.states_partials.specs.Entries.{plusOf, minusOf, partialOf, unitOf, componentOf, entryOf, upTo, entriesOf}
 use Rattle.bits.specs.Words.{wordsOf}
+
+-- What the partials of an arc are computed by.
+computed : Arc → List ℕ
+unfolding
+    add sub mul div neg lt eq ofInt ofBits toBits firstOf has floorOf asItIs withoutN withoutRevolutions intervalOf beyondOne reducedFrom nested c4Of c5Of
+    atReduced doublings quotientsOf coefficientsOf sumsOf radiusOf factorsOf endStateOf arcOf uAtFound wholeAnomalyOf wholeSumsOf uAtWhole uOf uRefused
+    matrixOf plusOf minusOf partialOf unitOf componentOf entryOf upTo entriesOf
+computed a = wordsOf (entriesOf a)
 
 its-partials :
     wordsOf (entriesOf arc)
@@ -30,7 +40,7 @@ its-partials :
     ∷ 0x3ff20811bb875a96 ∷ 0x3fd18395d6fe108e ∷ 0xbfcdc62b8c36f312 ∷ 0x3fe53bff4697c7e0 ∷ 0x3ff59680c736e60c ∷ 0x3f7de32b49187b38
     ∷ 0xbfbdf0b460e49378 ∷ 0xbf9654f140e4a5e0 ∷ 0xbfe07bfc20471f4f ∷ 0x3f8fa5b7c8501630 ∷ 0x3fb06e3188503b04 ∷ 0x3fe40dae76baaa96
     ∷ []
-unfolding add sub mul div neg ofBits toBits asItIs uAtFound uOf matrixOf plusOf minusOf partialOf unitOf componentOf entryOf upTo entriesOf arc
+unfolding computed arc
 its-partials = refl
 
 -- T-04: a circle, μ = 1, position (1,0,0), velocity (0,1,0), after three whole revolutions. Nothing is left to search, and ψ is +0. A start that
@@ -59,10 +69,7 @@ it-comes-round :
     ∷ 0x8000000000000000 ∷ 0x8000000000000000 ∷ 0x8000000000000000 ∷ 0 ∷ 0x3ff0000000000000 ∷ 0
     ∷ 0x8000000000000000 ∷ 0x8000000000000000 ∷ 0x8000000000000000 ∷ 0 ∷ 0 ∷ 0x3ff0000000000000
     ∷ [])
-unfolding
-    add sub mul div neg lt eq ofInt ofBits toBits firstOf has a-circle its-course three-times floorOf asItIs withoutN withoutRevolutions intervalOf
-    beyondOne reducedFrom nested c4Of c5Of atReduced coefficientsOf sumsOf radiusOf factorsOf endStateOf arcOf wholeAnomalyOf wholeSumsOf uAtWhole uOf
-    uRefused matrixOf plusOf minusOf partialOf unitOf componentOf entryOf upTo entriesOf
+unfolding computed a-circle its-course three-times
 it-comes-round = (refl, refl)
 
 -- The lower crate's orbit for 40 s: two revolutions of 18.89 s come off, and at the ψ of what is left no sum is zero.
@@ -81,8 +88,5 @@ it-goes-on :
     ∷ 0x40460a3b1af1c573 ∷ 0x402675945d953628 ∷ 0xc0358f4d345c2f19 ∷ 0x402203cca304d1f8 ∷ 0x4050749d850bc64d ∷ 0x4040181508ae7890
     ∷ 0x40352842ac1fb0d2 ∷ 0x4015befcbf59db59 ∷ 0xc026389353ee2662 ∷ 0x4010906bc58e878e ∷ 0x403ff36364a8ba0d ∷ 0x40304256f771f1ef
     ∷ [])
-unfolding
-    add sub mul div neg lt eq ofInt ofBits toBits firstOf has arc two-laps floorOf asItIs withoutN withoutRevolutions intervalOf beyondOne reducedFrom
-    nested c4Of c5Of atReduced doublings quotientsOf coefficientsOf sumsOf radiusOf factorsOf endStateOf arcOf wholeAnomalyOf wholeSumsOf uAtWhole uOf
-    uRefused matrixOf plusOf minusOf partialOf unitOf componentOf entryOf upTo entriesOf
+unfolding computed arc two-laps
 it-goes-on = (refl, refl)

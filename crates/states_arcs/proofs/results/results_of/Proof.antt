@@ -6,7 +6,7 @@ use Rattle.states_arcs.proofs.results.results_of.Tie as tie
 
 returns : tie.Need-returns
 unfolding resultsOf
-returns c = simp (c .before .acceleration-at2 .ensures, c .before .before .acceleration-at .ensures)
+returns c = cc
 
 pub results-of-spec : {M : Type 1} → statement M
 results-of-spec =

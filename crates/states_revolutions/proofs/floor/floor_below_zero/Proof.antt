@@ -1,28 +1,8 @@
 -- Where the size is at most 2^40, its whole part, or one more, is a double exactly, and with a minus the floor; else the floor is beyond.
-use mathlib.Core.Path.{_≡_, sym, _∙_, ap}
-use mathlib.Core.Bool.{true, false}
-use Prim.Native.Nat.{ℕ, _+_}
 use native.Mathlib.Omega.{arith}
-use lib.IntN.{pos}
-use lib.Ieee.{Float, binary64, ofInt, toUnsigned, lt, le, neg}
-use Rattle.bits.specs.Arithmetic.{n0}
-use Rattle.states_revolutions.specs.Floor.{floorOf}
-use Rattle.states_revolutions.specs.declared.figures.Floor.the-variants.{Whole}
-use Rattle.states_revolutions.proofs.FloorLaws.{limit, a-double, below-zero, below-zero-beyond}
+use Rattle.states_revolutions.proofs.FloorLaws.{a-double, below-zero, below-zero-beyond}
 use Rattle.states_revolutions.proofs.floor.floor_below_zero.Statement.{statement}
 use Rattle.states_revolutions.proofs.floor.floor_below_zero.Tie as tie
-
--- The whole part k is what its function ensures.
-module _ (x : Float) (h : lt x n0 ≡ true) (g : le (neg x) limit ≡ true) (k : ℕ) (e : k ≡ toUnsigned 64 (neg x)) where
-  more : lt (ofInt binary64 (pos k)) (neg x) ≡ true → Whole (neg (ofInt binary64 (pos (k + 1)))) ≡ floorOf x
-  more t =
-      ap (λ (n : ℕ). Whole (neg (ofInt binary64 (pos (n + 1))))) e
-      ∙ below-zero x h g .more (ap (λ (n : ℕ). lt (ofInt binary64 (pos n)) (neg x)) (sym e) ∙ t)
-
-  same : lt (ofInt binary64 (pos k)) (neg x) ≡ false → Whole (neg (ofInt binary64 (pos k))) ≡ floorOf x
-  same t =
-      ap (λ (n : ℕ). Whole (neg (ofInt binary64 (pos n)))) e
-      ∙ below-zero x h g .same (ap (λ (n : ℕ). lt (ofInt binary64 (pos n)) (neg x)) (sym e) ∙ t)
 
 truncating-f64-to-u64-requires : tie.Need-truncating-f64-to-u64-requires
 truncating-f64-to-u64-requires c κs = let b = below-zero _ (c .before .pre) (c .if1 .taken) in (b .above, b .under)
@@ -45,7 +25,8 @@ int-to-float-t8 c =
 returns : tie.Need-returns
 returns c =
     let t = c .before .before .before .before in
-    more _ (t .before .pre) (t .if1 .taken) _ (c .before .before .before .truncating-f64-to-u64 .ensures) (c .before .if2 .taken)
+    let e = c .before .before .before .truncating-f64-to-u64 .ensures in
+    rw e (below-zero _ (t .before .pre) (t .if1 .taken) .more (rw e at (c .before .if2 .taken)))
 
 int-to-float-t5 : tie.Need-int-to-float-t5
 int-to-float-t5 c =
@@ -55,7 +36,8 @@ int-to-float-t5 c =
 returns-2 : tie.Need-returns-2
 returns-2 c =
     let t = c .before .before .before .before in
-    same _ (t .before .pre) (t .if1 .taken) _ (c .before .before .before .truncating-f64-to-u64 .ensures) (c .before .if2 .left)
+    let e = c .before .before .before .truncating-f64-to-u64 .ensures in
+    rw e (below-zero _ (t .before .pre) (t .if1 .taken) .same (rw e at (c .before .if2 .left)))
 
 returns-3 : tie.Need-returns-3
 returns-3 c = below-zero-beyond _ (c .before .pre) (c .if1 .left)

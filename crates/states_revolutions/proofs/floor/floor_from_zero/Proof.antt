@@ -1,9 +1,4 @@
 -- Where the double is below 2^40 + 1 its whole part is its floor, and a double exactly; else the floor is beyond.
-use mathlib.Core.Path.{_∙_, ap}
-use Prim.Native.Nat.{ℕ}
-use lib.IntN.{pos}
-use lib.Ieee.{binary64, ofInt}
-use Rattle.states_revolutions.specs.declared.figures.Floor.the-variants.{Whole}
 use Rattle.states_revolutions.proofs.FloorLaws.{a-double, from-zero, from-zero-beyond}
 use Rattle.states_revolutions.proofs.floor.floor_from_zero.Statement.{statement}
 use Rattle.states_revolutions.proofs.floor.floor_from_zero.Tie as tie
@@ -19,7 +14,7 @@ int-to-float-t4 c =
 returns : tie.Need-returns
 returns c =
     let t = c .before .before in
-    ap (λ (k : ℕ). Whole (ofInt binary64 (pos k))) (c .before .truncating-f64-to-u64 .ensures) ∙ from-zero _ (t .before .pre) (t .if1 .taken) .answer
+    rw (c .before .truncating-f64-to-u64 .ensures) (from-zero _ (t .before .pre) (t .if1 .taken) .answer)
 
 returns-2 : tie.Need-returns-2
 returns-2 c = from-zero-beyond _ (c .before .pre) (c .if1 .left)

@@ -4,7 +4,7 @@ use Rattle.states_start.proofs.given.vector_at.Statement.{statement}
 use Rattle.states_start.proofs.given.vector_at.Tie as tie
 
 returns : tie.Need-returns
-returns c = λ i. record { x = c .before .before .double-at .ensures i; y = c .before .double-at2 .ensures i; z = c .double-at3 .ensures i }
+returns c = cc
 
 pub vector-at-spec : {M : Type 1} → statement M
 vector-at-spec =
