@@ -48,13 +48,13 @@ SELFTEST = build/tests/second/selftest
 HEADERS := $(shell find include host command tests -name '*.h')
 
 # The library against the second program: states and partials, then files, then the summary, then another station's rows, then two
-# stations' results; the same on inputs that find their own way, by those before them; and the root against the processor's.
+# stations' results; the same on inputs that find their own way, by those before them; and the root and the interval against the processor's.
 COMPARISONS = $(patsubst %,build/tests/compared/%,states files summary rows compare)
 GUIDED = build/tests/compared/guided
 CASES = $(patsubst %.c,build/%,$(wildcard tests/cases/*.c))
 
 # The longest first.
-TESTS = $(COMPARISONS) $(SELFTEST) $(GUIDED) build/tests/compared/root $(CASES)
+TESTS = $(COMPARISONS) $(SELFTEST) $(GUIDED) build/tests/compared/root build/tests/compared/interval $(CASES)
 
 # ---- What must hold.
 
@@ -177,7 +177,7 @@ build/tests/interface.a: $(call parts,tests/interface/shared)
 build/tests/second.a: $(SECOND)
 build/tests/traced.a: $(TRACED)
 
-$(COMPARISONS) build/tests/compared/root: build/tests/compared.a build/tests/second.a
+$(COMPARISONS) build/tests/compared/root build/tests/compared/interval: build/tests/compared.a build/tests/second.a
 $(GUIDED): build/tests/compared.a build/tests/traced.a
 $(CASES): build/tests/cases.a
 build/tests/interface/facts build/tests/interface/stack: build/tests/interface.a
@@ -232,7 +232,7 @@ fuzz: machine $(FUZZ)
 
 # ---- The benchmark: its table's rows, and what stands beside them.
 
-BENCH = root propagate partials years results check compare summary append withdraw
+BENCH = root propagate partials years results interval check compare summary append withdraw
 BESIDE = $(filter-out bench/row_% bench/accuracy.c bench/count.c,$(wildcard bench/*.c))
 
 bench: machine $(BENCH:%=build/bench/%)

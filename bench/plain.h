@@ -21,6 +21,8 @@ uint64_t plain_partials(uint64_t mu, uint64_t x, uint64_t y, uint64_t z,
 
 uint64_t plain_results(const uint8_t *file, size_t length, uint8_t *room, size_t size, uint64_t *answer, size_t n);
 
+uint64_t plain_interval(uint64_t time, uint64_t epoch, uint64_t *answer, size_t n);
+
 uint64_t plain_check(const uint8_t *file, size_t length, uint64_t *verdicts, size_t k, uint64_t *answer, size_t n);
 
 uint64_t plain_compare(const uint8_t *left, size_t left_length, const uint8_t *right, size_t right_length,

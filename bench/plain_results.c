@@ -1,5 +1,6 @@
 /*
-**  The result file of an element file, in plain C of the same rules. Words are copied as they lie: x86-64 has the lowest byte first, as the files have.
+**  The result file of an element file, and the interval of a request, in plain C of the same rules. Words are copied as they lie: x86-64 has the lowest
+**  byte first, as the files have.
 */
 #include "plain.h"
 
@@ -73,6 +74,21 @@ static uint64_t read_sections(const uint8_t *file, size_t length, struct section
         below = s->count[i];
     }
     return place == end ? 0 : 25;
+}
+
+/* Time less epoch, and one word for every NaN. */
+uint64_t plain_interval(uint64_t time, uint64_t epoch, uint64_t *answer, size_t n)
+{
+    const uint64_t nan = UINT64_C(0x7FF8000000000000);
+    double left, right, tau;
+
+    if (n != 1)
+        return 60;
+    memcpy(&left, &time, 8);
+    memcpy(&right, &epoch, 8);
+    tau = left - right;
+    memcpy(answer, tau == tau ? (const void *)&tau : &nan, 8);
+    return 0;
 }
 
 static void put_row(uint8_t *row, const struct sections *s, uint64_t number)

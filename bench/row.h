@@ -33,6 +33,7 @@ uint64_t empty_partials(uint64_t mu, uint64_t x, uint64_t y, uint64_t z,
                         uint64_t vx, uint64_t vy, uint64_t vz, uint64_t tau,
                         uint64_t *answer, size_t n, uint64_t *run, size_t k);
 uint64_t empty_results(const uint8_t *file, size_t length, uint8_t *room, size_t size, uint64_t *answer, size_t n);
+uint64_t empty_interval(uint64_t time, uint64_t epoch, uint64_t *answer, size_t n);
 uint64_t empty_check(const uint8_t *file, size_t length, uint64_t *verdicts, size_t k, uint64_t *answer, size_t n);
 uint64_t empty_compare(const uint8_t *left, size_t left_length, const uint8_t *right, size_t right_length,
                        uint64_t *rows, size_t k, uint64_t *answer, size_t n);

@@ -1,6 +1,6 @@
 #!/bin/sh
-# Prints the table of the rows given (root, propagate, partials, years, results, check, compare, summary, append, withdraw), whose programs are in build/bench/,
-# how two of them grow, and the root by classes of numbers.
+# Prints the table of the rows given (root, propagate, partials, years, results, interval, check, compare, summary, append, withdraw), whose
+# programs are in build/bench/, how two of them grow, and the root by classes of numbers.
 #
 # Instructions are counted under the emulator on every machine, so that all count alike. Time is measured
 # on x86-64 alone: under an emulator it says nothing of a station's machine.

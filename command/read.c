@@ -64,7 +64,7 @@ static void show_section(const struct element_file *elements, size_t number)
     for (k = 0; k < record_count(elements, number); k++) {
         show_record(elements, number, k);
         if (is_requests)
-            put_column(COLUMN_TAU, kelubashi_word(interval_of(elements, k)));
+            put_column(COLUMN_TAU, interval_of(elements, k));
         printf("\n");
     }
 }

@@ -17,7 +17,7 @@ static enum status run(const struct call *call)
 
 const struct subcommand selfcheck_subcommand = {
     "selfcheck", "", "the processor and the library, tried by known cases",
-    "Tries the processor's rounding and subnormal numbers, then the library's eleven calls by known cases.\n"
+    "Tries the processor's rounding and subnormal numbers, then the library's twelve calls by known cases.\n"
     "Every other subcommand does so too, before its work.\n",
     0, "q", 0, run
 };

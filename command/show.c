@@ -45,7 +45,8 @@ static void show_row(const struct element_file *elements, const struct result_fi
 {
     uint64_t refusal = row_word(results, row, KELUBASHI_REFUSAL);
 
-    printf("%4lu %5lu %14.9g  ", (unsigned long)row, (unsigned long)state_of(elements, row), interval_of(elements, row));
+    printf("%4lu %5lu %14.9g  ", (unsigned long)row, (unsigned long)state_of(elements, row),
+           kelubashi_figure(interval_of(elements, row)));
     if (refusal == 0)
         show_figures(results, row);
     else

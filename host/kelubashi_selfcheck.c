@@ -307,6 +307,21 @@ static const char *files(void)
     return results("the results of P10's file, a byte short", FILE_BYTES - 1, REFUSED, REFUSED_WORDS);
 }
 
+/* ---- intervals ---- */
+
+static const char *interval(const struct interval *at)
+{
+    volatile uint64_t time = at->time, epoch = at->epoch;
+    uint64_t answer = LENT;
+    uint64_t status = kelubashi1_interval(time, epoch, &answer, 1);
+
+    if (status != 0)
+        return astray_number(at->name, "the status", status, 0);
+    if (answer != at->right)
+        return astray_word(at->name, "the interval", answer, at->right);
+    return NULL;
+}
+
 /* ---- rows of another station ---- */
 
 static uint8_t rows_file[CHECKED_BYTES];
@@ -551,6 +566,8 @@ const char *kelubashi_selfcheck(void)
         wrong = partials(KELUBASHI_PARTIALS - 1, 1);
     if (wrong == NULL)
         wrong = files();
+    for (i = 0; wrong == NULL && i < sizeof INTERVALS / sizeof INTERVALS[0]; i++)
+        wrong = interval(&INTERVALS[i]);
     if (wrong == NULL)
         wrong = rows();
     if (wrong == NULL)

@@ -131,6 +131,23 @@ static const uint64_t RESULTS[RESULT_WORDS] = {
 
 static const uint64_t REFUSED[REFUSED_WORDS] = { 1, 0, 21 };
 
+/* ---- intervals, time less epoch ---- */
+
+static const struct interval {
+    const char *name;
+    uint64_t time, epoch;
+    uint64_t right;
+} INTERVALS[] = {
+    { "the interval from 5 s to 3 s", W(4008000000000000), W(4014000000000000), W(C000000000000000) },
+    { "the interval from +0 s to -0 s", MINUS_ZERO, 0, MINUS_ZERO },
+    /* 1 + 2^-52 and 2^-53 more: in the middle, and the double above is the even one */
+    { "an interval in the middle of two doubles", W(3FF0000000000001), W(BCA0000000000000), W(3FF0000000000002) },
+    { "a subnormal interval", W(0010000000000000), W(0000000000000001), W(000FFFFFFFFFFFFF) },
+    { "an interval too large for a double", W(7FEFFFFFFFFFFFFF), W(FFEFFFFFFFFFFFFF), W(7FF0000000000000) },
+    { "the interval of two infinite times", W(7FF0000000000000), W(7FF0000000000000), NAN_WORD },
+    { "the interval from a NaN", W(3FF0000000000000), W(FFF0000000000005), NAN_WORD }
+};
+
 /* ---- rows of those orbits, as another station would send them, and such with one bit changed ---- */
 
 static const struct checked {

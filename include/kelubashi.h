@@ -16,9 +16,9 @@
 **
 **  No call keeps anything between calls: they are reentrant, and safe in several threads at once. They
 **  need SSE2 and nothing newer of the processor, memset and nothing else of libc, and of the stack at
-**  most 100 bytes (root), 200 (read, compare, summary, append, withdraw), 300 (write), 1,100 (propagate),
-**  1,300 (results), 1,600 (check) or 2,000 (partials). They may raise floating-point flags, as fetestexcept
-**  shows them, and lower none.
+**  most 60 bytes (interval), 100 (root), 200 (read, compare, summary, append, withdraw), 300 (write), 1,100
+**  (propagate), 1,300 (results), 1,600 (check) or 2,000 (partials). They may raise floating-point flags, as
+**  fetestexcept shows them, and lower none.
 **
 **  The figures are those of a processor that rounds to nearest and keeps subnormal numbers, as
 **  programs find it when they start. Do not link with -ffast-math, which changes that.
@@ -180,7 +180,8 @@ uint64_t kelubashi1_partials(uint64_t mu, uint64_t x, uint64_t y, uint64_t z,
 **     requests      their count, 0 to 1,500; for each 2 words:
 **                      number of the state, *time (s)
 **
-**  Numbers of centres and of states start at 0. The interval of a request is time - epoch.
+**  Numbers of centres and of states start at 0. The interval of a request is time - epoch, which
+**  kelubashi1_interval works out.
 **
 **  Result file, edition 1; 16 bytes and 88 a request, 132,016 at most:
 **
@@ -366,6 +367,24 @@ uint64_t kelubashi1_write(const uint64_t *centres, size_t centre_words,
 KELUBASHI_STATUS
 uint64_t kelubashi1_results(const uint8_t *file, size_t length, uint8_t *room, size_t size,
                             uint64_t *answer, size_t n);
+
+/*
+**  The interval of a request: its time less the epoch of its state, as kelubashi1_results takes it.
+**
+**  Given, each as the word of a double; any word may be given:
+**     time      the request's time, s
+**     epoch     the epoch of its state, s
+**     n         the count of answer: 1
+**
+**  Returned:
+**     answer    the word of the difference, s, rounded once: tau of kelubashi1_propagate. Infinite where
+**               the two lie too far apart for a double; where it is a NaN, 7FF8000000000000, whatever
+**               NaN came in
+**
+**  Refusals: 60. An interval that is not finite is none: kelubashi1_propagate refuses it, by 38.
+*/
+KELUBASHI_STATUS
+uint64_t kelubashi1_interval(uint64_t time, uint64_t epoch, uint64_t *answer, size_t n);
 
 /*
 **  Which rows of another station are accepted, without searching again.
@@ -673,7 +692,7 @@ static inline const struct kelubashi_refusal *kelubashi_refusal_of(uint64_t numb
         { 51, "the two result files do not have the same number of rows",
               "compare the results of one element file, and look at which file each was made of" },
         { 60, "the answer run is not as long as the answer; nothing is written",
-              "lend 15 words (1 for the root, 8 to read, 7 to compare, 2 for the other calls with files or states), and give their count" },
+              "lend 15 words (1 for the root or an interval, 8 to read, 7 to compare, 2 for the other calls with files or states), and give their count" },
         { 0, "a number that this edition does not have",
              "use a library and a header of one edition" }
     };

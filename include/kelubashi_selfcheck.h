@@ -17,7 +17,7 @@ extern "C" {
 **
 **  Call it once at the start, and in the thread that will call the library: how a processor rounds is
 **  each thread's own. It changes nothing but a line of text and some bytes of its own, so that one
-**  thread at a time may call it. It tries the processor, then all eleven calls of the library.
+**  thread at a time may call it. It tries the processor, then all twelve calls of the library.
 **
 **  Returned: a null pointer where all is well, or else one line, without a line end, that says what is
 **  wrong and what to do. The line stands until the next call. Make no call of the library then.

@@ -4,6 +4,7 @@
 #include "say.h"
 
 #include <inttypes.h>
+#include <math.h>
 #include <stdio.h>
 
 void judge_elements(struct element_file *elements)
@@ -97,10 +98,14 @@ size_t state_of(const struct element_file *elements, size_t request)
     return (size_t)record_word(elements, REQUESTS, request, COLUMN_STATE);
 }
 
-double interval_of(const struct element_file *elements, size_t request)
+/* The library refuses no two words; an interval that it did not give would be no number. */
+uint64_t interval_of(const struct element_file *elements, size_t request)
 {
-    return kelubashi_figure(record_word(elements, REQUESTS, request, COLUMN_TIME)) -
-           kelubashi_figure(record_word(elements, STATES, state_of(elements, request), COLUMN_EPOCH));
+    uint64_t interval;
+    uint64_t refusal = kelubashi1_interval(record_word(elements, REQUESTS, request, COLUMN_TIME),
+                                           record_word(elements, STATES, state_of(elements, request), COLUMN_EPOCH), &interval, 1);
+
+    return refusal == 0 ? interval : kelubashi_word(NAN);
 }
 
 void request_input(const struct element_file *elements, size_t request, uint64_t *words)
@@ -111,5 +116,5 @@ void request_input(const struct element_file *elements, size_t request, uint64_t
     *words++ = record_word(elements, CENTRES, centre_of(elements, state), COLUMN_MU);
     for (column = COLUMN_X; column <= COLUMN_VZ; column++)
         *words++ = record_word(elements, STATES, state, column);
-    *words = kelubashi_word(interval_of(elements, request));
+    *words = interval_of(elements, request);
 }

@@ -42,10 +42,10 @@ void show_counts(const struct element_file *elements);
 /* All states, as the first of a run of KELUBASHI_STATE_RUN words; the words behind them are left. */
 void copy_states(const struct element_file *elements, uint64_t *run);
 
-/* The centre of a state; the state of a request, and how long after its epoch the request's time is, in s. */
+/* The centre of a state; the state of a request, and the word of how long after its epoch the request's time is, in s. */
 size_t centre_of(const struct element_file *elements, size_t state);
 size_t state_of(const struct element_file *elements, size_t request);
-double interval_of(const struct element_file *elements, size_t request);
+uint64_t interval_of(const struct element_file *elements, size_t request);
 
 /* The eight words of a request that the library's call takes: mu, x, y, z, vx, vy, vz, tau. */
 void request_input(const struct element_file *elements, size_t request, uint64_t *words);

@@ -38,6 +38,11 @@ uint64_t kelubashi1_results(const uint8_t *file, size_t length, uint8_t *room, s
     return second_results(file, length, room, size, answer, n);
 }
 
+uint64_t kelubashi1_interval(uint64_t time, uint64_t epoch, uint64_t *answer, size_t n)
+{
+    return second_interval(time, epoch, answer, n);
+}
+
 uint64_t kelubashi1_summary(const uint64_t *states, size_t words, uint64_t count, uint64_t centres, uint64_t *list,
                             size_t k, uint64_t *answer, size_t n)
 {

@@ -58,6 +58,18 @@ request  state          time s   after epoch s
 TABLE
 writes "$room/table"
 says ''
+
+# The interval is the library's: one NaN, whatever a processor makes of two infinite times, or of a NaN.
+printf '%s\n' 'centre 1' 'state 0 inf 1 0 0 0 0 0' 'request 0 inf' 'request 0 -nan' >"$room/not_finite.txt"
+kelubashi 0 elements -q --any-bits "$room/not_finite.txt" -o "$room/not_finite"
+kelubashi 0 read "$room/not_finite"
+shows '      0      0             inf             nan'
+shows '      1      0            -nan             nan'
+second <"$room/not_finite" >"$room/not_finite.results"
+kelubashi 1 show "$room/not_finite" "$room/not_finite.results"
+shows '   0     0            nan   refused (38): tau is infinite or a NaN'
+shows '   1     0            nan   refused (38): tau is infinite or a NaN'
+
 kelubashi 0 read -q "$good"
 writes_nothing
 says ''

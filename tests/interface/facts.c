@@ -26,7 +26,7 @@ static const double GIVEN[ORBITS][8] = {
 
 struct results {
     uint64_t answer[KELUBASHI_ANSWER], run[KELUBASHI_PARTIALS], read[KELUBASHI_READ_ANSWER];
-    uint64_t root, written[2], answered[2], checked[2], verdict, changed[6], list[KELUBASHI_ENTRY];
+    uint64_t root, interval, written[2], answered[2], checked[2], verdict, changed[6], list[KELUBASHI_ENTRY];
     uint64_t compared[KELUBASHI_COMPARE_ANSWER], told[KELUBASHI_COMPARED];
     uint8_t file[200], results[200], moved[ONE_RESULT], rows[ONE_ROW];
 };
@@ -37,7 +37,7 @@ static void fail(const char *what)
     exit(EXIT_FAILURE);
 }
 
-/* All eleven calls on one orbit; every byte that they leave. */
+/* All twelve calls on one orbit; every byte that they leave. */
 static void ask(const double *g, struct results *r)
 {
     uint64_t w[8], state[KELUBASHI_STATE] = { 0 }, request[KELUBASHI_REQUEST] = { 0, 0 }, refusals;
@@ -57,6 +57,7 @@ static void ask(const double *g, struct results *r)
     refusals += kelubashi1_write(w, 1, state, KELUBASHI_STATE, request, KELUBASHI_REQUEST, r->file, sizeof r->file, r->written, 2);
     refusals += kelubashi1_read(r->file, 120, r->read, KELUBASHI_READ_ANSWER);
     refusals += kelubashi1_results(r->file, 120, r->results, sizeof r->results, r->answered, 2);
+    refusals += kelubashi1_interval(w[7], w[1], &r->interval, 1);
     one_row(w, r->answer, r->rows);
     refusals += kelubashi1_check(r->rows, sizeof r->rows, &r->verdict, 1, r->checked, 2);
     move_results(r->results, r->moved);

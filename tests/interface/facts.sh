@@ -101,7 +101,7 @@ said=$(sed -n 's/.*glibc \([0-9.]*\) or newer.*/\1/p' man/propagate.1)
 
 for call in 'kelubashi1_root(0, w, 1)' 'kelubashi1_propagate(0, 0, 0, 0, 0, 0, 0, 0, w, 15)' 'kelubashi1_partials(0, 0, 0, 0, 0, 0, 0, 0, w, 15, w, 36)' \
     'kelubashi1_read(b, 0, w, 8)' 'kelubashi1_write(w, 0, w, 0, w, 0, b, 0, w, 2)' 'kelubashi1_results(b, 0, b, 0, w, 2)' \
-    'kelubashi1_check(b, 0, w, 0, w, 2)' 'kelubashi1_compare(b, 0, b, 0, w, 0, w, 7)' \
+    'kelubashi1_interval(0, 0, w, 1)' 'kelubashi1_check(b, 0, w, 0, w, 2)' 'kelubashi1_compare(b, 0, b, 0, w, 0, w, 7)' \
     'kelubashi1_summary(w, 0, 0, 0, w, 0, w, 2)' 'kelubashi1_append(w, 0, w, 0, 0, 0, w, 0, w, 2)' 'kelubashi1_withdraw(0, w, 0, 0, 0, w, 0, w, 2)' \
     'kelubashi_propagate(0, d, d, 0, &a)' 'kelubashi_partials(0, d, d, 0, &a, p)'; do
     printf '#include "kelubashi.h"\nvoid f(uint64_t *w, uint8_t *b, double *d, double p[6][6]);\nvoid f(uint64_t *w, uint8_t *b, double *d, double p[6][6])\n{\n    struct kelubashi_answer a;\n    (void)w; (void)b; (void)d; (void)p; (void)a;\n    %s;\n}\n' "$call" >"$room/left.c"

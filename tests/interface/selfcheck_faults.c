@@ -21,6 +21,8 @@ enum fault {
     READ_REFUSES_ALL, READ_BY_WORDS, READ_STATES_FOR_CENTRES, READ_TAKES_SHORT_FILES, READ_PLACE_LOST,
     WRITE_HIGHEST_FIRST, WRITE_NOTHING, WRITE_BEYOND, WRITE_IN_ANY_ROOM, WRITE_LENGTH_IN_WORDS,
     RESULTS_OF_ZEROS, RESULTS_WITHOUT_COUNT, RESULTS_REFUSE, RESULTS_TAKE_SHORT_FILES, RESULTS_LENGTH_LOST,
+    INTERVAL_TURNED, INTERVAL_UNWRITTEN, INTERVAL_REFUSES, INTERVAL_ADDS_ZERO, INTERVAL_CUT_OFF, INTERVAL_DROPS_SUBNORMALS, INTERVAL_STAYS_FINITE,
+    INTERVAL_MINUS_NAN, INTERVAL_KEEPS_NANS,
     CHECK_ACCEPTS_ALL, CHECK_ACCEPTS_NONE, CHECK_UNWRITTEN, CHECK_BEYOND, CHECK_TAKES_SHORT_FILES, CHECK_IN_ANY_RUN, CHECK_ROWS_LOST,
     CHECK_ANY_PSI, CHECK_ANY_FIGURES, CHECK_NUMBERS, CHECK_TURNED, CHECK_KEEPS_REVOLUTIONS, CHECK_DROPS_SUBNORMALS,
     COMPARE_UNWRITTEN, COMPARE_BEYOND, COMPARE_ROWS_LOST, COMPARE_LAST_LARGEST, COMPARE_WORD_OF_FIGURES,
@@ -81,6 +83,15 @@ static const struct telling {
     { RESULTS_REFUSE, DOES_NOT "the results of P10's file, a byte short: the status is 21 and not 0: " },
     { RESULTS_TAKE_SHORT_FILES, DOES_NOT "the results of P10's file, a byte short: the length is 104 and not 24: " },
     { RESULTS_LENGTH_LOST, DOES_NOT "the results of P10's file: the length is 0 and not 104: " },
+    { INTERVAL_TURNED, DOES_NOT "the interval from 5 s to 3 s: the interval is 4000000000000000 and not C000000000000000: " },
+    { INTERVAL_UNWRITTEN, DOES_NOT "the interval from 5 s to 3 s: the interval is 5EED5EED5EED5EED and not C000000000000000: " },
+    { INTERVAL_REFUSES, DOES_NOT "an interval too large for a double: the status is 38 and not 0: " },
+    { INTERVAL_ADDS_ZERO, DOES_NOT "the interval from +0 s to -0 s: the interval is 0000000000000000 and not 8000000000000000: " },
+    { INTERVAL_CUT_OFF, DOES_NOT "an interval in the middle of two doubles: the interval is 3FF0000000000001 and not 3FF0000000000002: " },
+    { INTERVAL_DROPS_SUBNORMALS, DOES_NOT "a subnormal interval: the interval is 0000000000000000 and not 000FFFFFFFFFFFFF: " },
+    { INTERVAL_STAYS_FINITE, DOES_NOT "an interval too large for a double: the interval is 7FEFFFFFFFFFFFFF and not 7FF0000000000000: " },
+    { INTERVAL_MINUS_NAN, DOES_NOT "the interval of two infinite times: the interval is FFF8000000000000 and not 7FF8000000000000: " },
+    { INTERVAL_KEEPS_NANS, DOES_NOT "the interval from a NaN: the interval is FFF8000000000005 and not 7FF8000000000000: " },
     { CHECK_ACCEPTS_ALL, DOES_NOT "P10's row with another bit of psi: the verdict is 1 and not 0: " },
     { CHECK_ACCEPTS_NONE, DOES_NOT "P10's row: the verdict is 0 and not 1: " },
     { CHECK_UNWRITTEN, DOES_NOT "P10's row: the verdict is 6840227782638526189 and not 1: " },
@@ -333,6 +344,43 @@ uint64_t kelubashi1_results(const uint8_t *file, size_t length, uint8_t *room, s
     if (fault == RESULTS_LENGTH_LOST)
         answer[KELUBASHI_RESULTS_LENGTH] = 0;
     return fault == RESULTS_REFUSE && length < 120 ? 21 : status;
+}
+
+static int is_nan(uint64_t word)
+{
+    return !is_finite(word) && word << 12 != 0;
+}
+
+/* The interval with the fault. */
+static uint64_t other_interval(uint64_t epoch, uint64_t right)
+{
+    switch (fault) {
+    case INTERVAL_TURNED:
+        return right ^ UINT64_C(0x8000000000000000);
+    case INTERVAL_ADDS_ZERO:
+        return right << 1 == 0 ? 0 : right;
+    case INTERVAL_CUT_OFF:
+        return right - (right == UINT64_C(0x3FF0000000000002));
+    case INTERVAL_DROPS_SUBNORMALS:
+        return is_subnormal(right) ? 0 : right;
+    case INTERVAL_STAYS_FINITE:
+        return is_finite(epoch) && !is_finite(right) ? right - 1 : right;
+    case INTERVAL_MINUS_NAN:     /* what the processor makes */
+        return is_nan(right) ? UINT64_C(0xFFF8000000000000) : right;
+    case INTERVAL_KEEPS_NANS:
+        return is_nan(epoch) ? epoch | UINT64_C(0x0008000000000000) : right;
+    default:
+        return right;
+    }
+}
+
+uint64_t kelubashi1_interval(uint64_t time, uint64_t epoch, uint64_t *answer, size_t n)
+{
+    uint64_t right, status = second_interval(time, epoch, &right, n);
+
+    if (fault != INTERVAL_UNWRITTEN)
+        *answer = other_interval(epoch, right);
+    return fault == INTERVAL_REFUSES && !is_finite(right) ? 38 : status;
 }
 
 /* The word of a row, in the file of rows. */

@@ -80,6 +80,11 @@ static void results(void)
     status = kelubashi1_results(file, length, room, sizeof room, answer, KELUBASHI_RESULTS_ANSWER);
 }
 
+static void interval(void)
+{
+    status = kelubashi1_interval(WORD(7), WORD(1), answer, 1);
+}
+
 /* The row that is checked: the library's own, so that all of it is looked at. */
 static void put_row(void)
 {
@@ -169,6 +174,7 @@ int main(void)
     tell("kelubashi1_read", read_file);
     tell("kelubashi1_write", write_file);
     tell("kelubashi1_results", results);
+    tell("kelubashi1_interval", interval);
     tell("kelubashi1_check", check);
     tell("kelubashi1_compare", compare);
     tell("kelubashi1_summary", summary);

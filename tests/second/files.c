@@ -10,6 +10,7 @@
 #define STATE_WORDS 8u
 #define REQUEST_WORDS 2u
 #define ROW_WORDS 11u
+#define NAN_WORD 0x7FF8000000000000u /* of an interval, whatever NaN came in */
 
 /* One section: the byte of its count word, and the count. */
 struct section {
@@ -276,7 +277,27 @@ static double float_at(const uint8_t *file, uint64_t place)
     return sec_double(sec_word_at(file, place));
 }
 
-/* One request: its state, that state's centre, and tau = time - epoch. */
+/* tau is time - epoch: one rounded difference. */
+static double interval(double time, double epoch)
+{
+    return time - epoch;
+}
+
+/* Any words may come in.  Which NaN a difference gives is the machine's
+ * choice, so that its word is never answered. */
+uint64_t second_interval(uint64_t time, uint64_t epoch,
+                         uint64_t *answer, size_t n)
+{
+    double tau;
+
+    if (n != 1)
+        return WRONG_ANSWER_RUN;
+    tau = interval(sec_double(time), sec_double(epoch));
+    answer[0] = sec_nan(tau) ? NAN_WORD : sec_word(tau);
+    return 0;
+}
+
+/* One request: its state, that state's centre, and its interval. */
 static struct answer answer_request(const uint8_t *file,
                                     const struct contents *c, uint64_t i)
 {
@@ -291,7 +312,8 @@ static struct answer answer_request(const uint8_t *file,
     eight[0] = float_at(file, centre);
     for (j = 0; j < 6; j++)
         eight[1 + j] = float_at(file, state + 16 + 8 * (uint64_t)j);
-    eight[7] = float_at(file, request + 8) - float_at(file, state + 8);
+    eight[7] = interval(float_at(file, request + 8),
+                        float_at(file, state + 8));
     return sec_propagate(eight, NULL);
 }
 

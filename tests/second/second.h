@@ -42,6 +42,10 @@ uint64_t second_results(const uint8_t *file, size_t len,
                         uint8_t *room, size_t room_len,
                         uint64_t *answer, size_t n);
 
+/* n = 1: the interval, time - epoch; 7FF8000000000000 hex where it is a NaN. */
+uint64_t second_interval(uint64_t time, uint64_t epoch,
+                         uint64_t *answer, size_t n);
+
 /* Another station's rows: a count of 0 to 400, then 18 words a row, which are
  * mu, x, y, z, vx, vy, vz, tau, psi, position, velocity, end acceleration.
  * verdicts: a word a row, 1 yes or 0 no; those of its k words behind them stay.

@@ -1,5 +1,5 @@
 -- The order of doubles: of two, at most one is below the other, and none is below itself. A NaN is below nothing, and nothing below it.
-use mathlib.Core.Path.{_≡_, refl, sym, _∙_}
+use mathlib.Core.Path.{_≡_, refl, sym}
 use mathlib.Core.Bool.{Bool, true, false, true≢false}
 use Prim.Native.Nat.{ℕ, _*_}
 use native.Mathlib.Omega.{arith}

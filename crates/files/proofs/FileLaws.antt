@@ -1,304 +1,181 @@
--- Three sound sections: what the reader accepts is made of them, what the writer accepts is three of them, and each goes over into the other.
-use Prim.Native.Nat.{ℕ, _+_, _*_, _%_, _^_, _≤_}
+-- The file of runs of whole records, and what the reader finds in it; and an accepted file as the file of the runs that it holds.
+use Prim.Native.Nat.{ℕ, _+_, _*_, _^_, _≤_}
 use native.Mathlib.Omega.{arith}
 use mathlib.Core.Path.{_≡_, refl, ap, ap₂, sym, subst, _∙_}
 use mathlib.Core.List.{List, [], _∷_, _++_, append-assoc, append-nil}
-use borrow.Author.Tests.{le-leb, eq-eqb}
+use borrow.Author.Tests.{le-leb}
 use lib.ListN.{length, length-append}
-use Rattle.files_words.specs.Bytes.{wordAt, wordsFrom, asBytes, Below}
-use Rattle.files_words.proofs.WordLaws.{next-word, no-word, whole-file, words-after, length-as-bytes, below-append}
-use Rattle.files_sections.specs.declared.sections.Section.{Section}
-use Rattle.files_sections.specs.declared.sections.Section.the-variants.{Centres, States, Requests}
-use Rattle.files_sections.specs.declared.checks.Check.{Check}
-use Rattle.files_sections.specs.declared.checks.Check.the-variants.{Sound}
-use Rattle.files_sections.specs.Sections.{elementEdition, widthOf, sectionCheck, centresPlace, statesPlace, requestsPlace, endPlace}
-use Rattle.files_sections.specs.Checks.{_⟫_, editionCheck, endCheck}
-use Rattle.files_sections.proofs.CheckLaws.{both, sound-both, sound-need}
-use Rattle.files_sections.proofs.RecordLaws.{limit-bound}
-use Rattle.files_sections.proofs.CountedLaws.{sound-edition}
-use Rattle.files_reader.specs.Reader.{fileCheck}
-use Rattle.files_reader.proofs.Accepted.{edition-sound, centres-sound, states-sound, requests-sound, sound-length}
-use Rattle.files.specs.Writer.{recordsIn, wholeCheck, wholeChecks, limitCheck, limitChecks, numberCheck, numberChecks, sizeOf, writeCheck}
-use Rattle.files.specs.Writer.{sectionWords, fileWords, fileOf}
-use Rattle.files.proofs.WriteLaws.{fits, numbers-sound}
-use Rattle.files.proofs.SectionLaws.{Proper, proper-sound, records-of, no-rest, of-records, runAt}
-use Rattle.files.proofs.SectionLaws.{read-proper, read-words, found-count, found-check, found-run}
+use Rattle.files_words.specs.Bytes.{wordAt, wordsFrom, bytesOf, asBytes, put, Below}
+use Rattle.files_words.proofs.WordLaws.{next-word, no-word, whole-file, words-after, length-as-bytes, as-bytes-append}
+use Rattle.files_words.proofs.PutLaws.{put-next}
+use Rattle.files_checks.specs.declared.Check.the-variants.{Sound}
+use Rattle.files_checks.specs.Checks.{_⟫_, endCheck}
+use Rattle.files_checks.proofs.CheckLaws.{sound-need}
+use Rattle.files_checks.proofs.CountedLaws.{sound-edition}
+use Rattle.files_formats.specs.declared.elements.Section.{Section}
+use Rattle.files_formats.specs.declared.elements.Section.the-variants.{Centres, States, Requests}
+use Rattle.files_formats.specs.declared.shapes.Shape.{Shape}
+use Rattle.files_formats.specs.Elements.{editionWord, isEdition, editionOf, sections}
+use Rattle.files_formats.specs.Shapes.{shapeOf, countOf, wordsOf, spanOf, placeOf, endOf, sectionCheck, runCheck}
+use Rattle.files_formats.proofs.EditionLaws.{known-word, edition-back, word-back}
+use Rattle.files_reader.specs.Reader.{editionIn, firstCheck, shapeIn, sectionsCheck, fileCheck}
+use Rattle.files_reader.proofs.Accepted.{count-in, edition-sound, section-sound, sound-length}
+use Rattle.files.specs.Writer.{Runs, each, limitCheck, sectionWords, wordsBy, Fits}
+use Rattle.files.specs.Held.{held}
+use Rattle.files.proofs.SectionLaws.{Whole, Proper, read-proper, read-words, found-count, found-run, found-check}
 
--- Runs of whole records, as many as these counts.
-pub record WholeRuns (C S R : List ℕ) (c s r : ℕ) : Type 0 where
-  pub first : length C ≡ c * widthOf Centres
-  pub second : length S ≡ s * widthOf States
-  pub third : length R ≡ r * widthOf Requests
-
--- Runs that are sound sections of these counts, each where it would stand.
-pub record ProperFile (C S R : List ℕ) (c s r : ℕ) : Type 0 where
-  pub first : Proper Centres 0 8 c C
-  pub second : Proper States c (statesPlace c) s S
-  pub third : Proper Requests s (requestsPlace c s) r R
-
--- ---- The writer accepts just these.
-
-counted : (section : Section) (count : ℕ) (X : List ℕ) → length X ≡ count * widthOf section → recordsIn section (length X) ≡ count
-counted section count X size = ap (recordsIn section) size ∙ records-of section count
-
-whole : (section : Section) (index : ℕ) {below place count : ℕ} {X : List ℕ} → Proper section below place count X → wholeCheck section index (length X) ≡ Sound
-whole section index {count = count} p = sound-need _ 27 index (eq-eqb _ _ (ap (λ (n : ℕ). n % widthOf section) (p .size) ∙ no-rest section count))
-
-part : (section : Section) (count : ℕ) (X : List ℕ) → length X ≡ count * widthOf section → sectionWords section X ≡ count ∷ X
-part section count X size = ap (λ (n : ℕ). n ∷ X) (counted section count X size)
-
-small : (section : Section) {below place count : ℕ} {X : List ℕ} → Proper section below place count X → Below (2 ^ 64) X → Below (2 ^ 64) (sectionWords section X)
-small section {count = count} {X = X} q b = (omega (arith, counted section count X (q .size), q .few, limit-bound section), b)
-
-module _ (C S R : List ℕ) (c s r : ℕ) (p : ProperFile C S R c s r) where
-  ec : recordsIn Centres (length C) ≡ c
-  ec = counted Centres c C (p .first .size)
-
-  es : recordsIn States (length S) ≡ s
-  es = counted States s S (p .second .size)
-
-  er : recordsIn Requests (length R) ≡ r
-  er = counted Requests r R (p .third .size)
-
-  wholes : wholeChecks (length C) (length S) (length R) ≡ Sound
-  unfolding wholeChecks
-  wholes = sound-both _ _ (whole Centres 0 (p .first)) (sound-both _ _ (whole States 1 (p .second)) (whole Requests 2 (p .third)))
-
-  limits : limitChecks c s r ≡ Sound
-  unfolding limitChecks
-  limits =
-      sound-both _ _ (sound-need _ 23 _ (le-leb _ _ (p .first .few)))
-      (sound-both _ _ (sound-need _ 23 _ (le-leb _ _ (p .second .few)))
-      (sound-need _ 23 _ (le-leb _ _ (p .third .few))))
-
-  numbers : numberChecks C S R ≡ Sound
-  unfolding numberChecks
-  numbers =
-      sound-both _ _ (p .first .numbers)
-      (sound-both _ _ (ap (λ (k : ℕ). numberCheck States k (statesPlace k) S) ec ∙ p .second .numbers)
-      (ap₂ (λ (k l : ℕ). numberCheck Requests l (requestsPlace k l) R) ec es ∙ p .third .numbers))
-
-  pub proper-whole : WholeRuns C S R c s r
-  proper-whole = record { first = p .first .size; second = p .second .size; third = p .third .size }
-
-  pub proper-words : Below (2 ^ 64) C → Below (2 ^ 64) S → Below (2 ^ 64) R → Below (2 ^ 64) (fileWords C S R)
-  unfolding fileWords
-  proper-words bc bs br =
-      let B = sectionWords Centres C in
-      let D = sectionWords States S in
-      below-append (2 ^ 64) ((1 ∷ []) ++ B ++ D) (sectionWords Requests R)
-      (below-append (2 ^ 64) ((1 ∷ []) ++ B) D (omega arith, small Centres (p .first) bc) (small States (p .second) bs))
-      (small Requests (p .third) br)
-
-  pub proper-size : sizeOf (length C) (length S) (length R) ≡ endPlace c s r
-  proper-size = omega (arith, ec, es, er)
-
-  pub proper-accepted : (room : ℕ) → endPlace c s r ≤ room → writeCheck C S R room ≡ Sound
-  unfolding writeCheck
-  proper-accepted room h =
-      let enough : sizeOf (length C) (length S) (length R) ≤ room = omega (arith, proper-size) in
-      sound-both _ _ wholes
-      (sound-both (limitChecks (recordsIn Centres (length C)) (recordsIn States (length S)) (recordsIn Requests (length R))) _
-      (ap₂ (λ (f : ℕ → Check) (n : ℕ). f n) (ap₂ limitChecks ec es) er ∙ limits)
-      (sound-both (numberChecks C S R) _ numbers (sound-need _ 26 (sizeOf (length C) (length S) (length R)) (le-leb _ _ enough))))
-
-pub accepted-proper : (C S R : List ℕ) (room : ℕ) → writeCheck C S R room ≡ Sound →
-    ProperFile C S R (recordsIn Centres (length C)) (recordsIn States (length S)) (recordsIn Requests (length R))
-unfolding numberChecks
-accepted-proper C S R room sound =
-    let f = fits C S R room sound in
-    let n = both _ _ (numbers-sound C S R room sound) in
-    let m = both _ _ (n .1) in
-    record {
-      first = record { size = of-records Centres (length C) (f .whole-centres); few = f .within .few-centres; numbers = n .0 };
-      second = record { size = of-records States (length S) (f .whole-states); few = f .within .few-states; numbers = m .0 };
-      third = record { size = of-records Requests (length R) (f .whole-requests); few = f .within .few-requests; numbers = m .1 };
-    }
-
--- ---- The reader accepts just their files.
-
-module _ (file : List ℕ) (sound : fileCheck file ≡ Sound) where
-  abbrev c : ℕ
-  c = wordAt file 8
-
-  abbrev s : ℕ
-  s = wordAt file (statesPlace c)
-
-  abbrev r : ℕ
-  r = wordAt file (requestsPlace c s)
-
-  abbrev C : List ℕ
-  C = runAt file 8 Centres
-
-  abbrev S : List ℕ
-  S = runAt file (statesPlace c) States
-
-  abbrev R : List ℕ
-  R = runAt file (requestsPlace c s) Requests
-
-  pub read-file-proper : ProperFile C S R c s r
-  read-file-proper =
-      record {
-        first = read-proper file 8 Centres 0 (centres-sound file sound);
-        second = read-proper file (statesPlace c) States c (states-sound file sound);
-        third = read-proper file (requestsPlace c s) Requests s (requests-sound file sound);
-      }
-
-  words-are : wordsFrom file 0 ≡ fileWords C S R
-  unfolding fileWords
-  words-are =
-      let A : List ℕ = 1 ∷ [] in
-      let last : wordsFrom file (endPlace c s r) ≡ [] = no-word file (endPlace c s r) (omega (arith, sound-length file sound)) in
-      next-word file 0 (edition-sound file sound .0)
-      ∙ ap₂ _∷_ (edition-sound file sound .1)
-      (read-words file 8 Centres 0 (centres-sound file sound)
-      ∙ ap (λ (l : List ℕ). sectionWords Centres C ++ l)
-      (read-words file (statesPlace c) States c (states-sound file sound)
-      ∙ ap (λ (l : List ℕ). sectionWords States S ++ l)
-      (read-words file (requestsPlace c s) Requests s (requests-sound file sound)
-      ∙ ap (λ (l : List ℕ). sectionWords Requests R ++ l) last
-      ∙ append-nil (sectionWords Requests R))))
-      ∙ sym
-      (append-assoc (A ++ sectionWords Centres C) (sectionWords States S) (sectionWords Requests R)
-      ∙ append-assoc A (sectionWords Centres C) (sectionWords States S ++ sectionWords Requests R))
-
-  pub read-bytes : Below 256 file → fileOf C S R ≡ file
-  unfolding fileOf
-  read-bytes h =
-      let n = 4 + c + 8 * s + 2 * r in
-      ap asBytes (sym words-are) ∙ whole-file file n h (omega (arith, sound-length file sound))
-
--- ---- The file of runs of whole records, whose words are words: what the reader finds in it, section by section.
-
+-- ---- The file of runs of whole records, whose words are words.
 behind : (n : ℕ) (pre post : List ℕ) → Below n (pre ++ post) → Below n post
 behind n [] post h = h
 behind n (x ∷ pre) post h = behind n pre post (h .1)
 
-module _ (C S R : List ℕ) (c s r : ℕ) (w : WholeRuns C S R c s r) (are : Below (2 ^ 64) (fileWords C S R)) where
+module _ (shape : Shape) (runs : Runs) (whole : Whole shape runs) where
   abbrev file : List ℕ
-  file = fileOf C S R
+  file = asBytes (wordsBy shape runs)
 
-  -- Its words from each count on.
-  abbrev fromRequests : List ℕ
-  fromRequests = sectionWords Requests R
+  abbrev part : Section → List ℕ
+  part = sectionWords shape runs
 
-  abbrev fromStates : List ℕ
-  fromStates = sectionWords States S ++ fromRequests
-
-  abbrev fromCentres : List ℕ
-  fromCentres = sectionWords Centres C ++ fromStates
-
-  all-words : fileWords C S R ≡ 1 ∷ fromCentres
-  unfolding fileWords
-  all-words = append-assoc ((1 ∷ []) ++ sectionWords Centres C) (sectionWords States S) fromRequests ∙ append-assoc (1 ∷ []) (sectionWords Centres C) fromStates
-
-  below-all : Below (2 ^ 64) (1 ∷ fromCentres)
-  below-all = subst (Below (2 ^ 64)) all-words are
-
-  below-states : Below (2 ^ 64) fromStates
-  below-states = behind (2 ^ 64) (sectionWords Centres C) fromStates (below-all .1)
-
-  pub file-length : length file ≡ endPlace c s r
-  unfolding fileOf
+  pub file-length : length file ≡ endOf shape
   file-length =
-      ap (λ (ws : List ℕ). length (asBytes ws)) all-words
-      ∙ length-as-bytes (1 ∷ fromCentres)
-      ∙ omega (arith, length-append (sectionWords Centres C) fromStates, length-append (sectionWords States S) fromRequests, w .first, w .second, w .third)
+      let after : List ℕ = part Requests ++ [] in
+      length-as-bytes (wordsBy shape runs)
+      ∙ omega (
+        arith,
+        length-append (part Centres) (part States ++ after),
+        length-append (part States) after,
+        length-append (part Requests) [],
+        whole Centres,
+        whole States,
+        whole Requests,
+      )
 
-  -- The words from a place on are those behind the words before it.
-  from-place : (place : ℕ) (pre post : List ℕ) → 1 ∷ fromCentres ≡ pre ++ post → 8 * length pre ≡ place → Below (2 ^ 64) post → wordsFrom file place ≡ post
-  unfolding fileOf
-  from-place place pre post e at below =
-      ap₂ (λ (ws : List ℕ) (p : ℕ). wordsFrom (asBytes ws) p) (all-words ∙ e) (sym at) ∙ words-after pre post below
+  -- The words before a section, and behind it.
+  abbrev before : Section → List ℕ
+  before Centres = editionWord (shape .edition) ∷ []
+  before States = editionWord (shape .edition) ∷ part Centres
+  before Requests = editionWord (shape .edition) ∷ (part Centres ++ part States)
 
-  at-edition : wordsFrom file 0 ≡ 1 ∷ fromCentres
-  at-edition = from-place 0 [] (1 ∷ fromCentres) refl refl below-all
+  abbrev after : Section → List ℕ
+  after Centres = part States ++ (part Requests ++ [])
+  after States = part Requests ++ []
+  after Requests = []
 
-  at-centres : wordsFrom file 8 ≡ c ∷ (C ++ fromStates)
-  at-centres = from-place 8 (1 ∷ []) fromCentres refl refl (below-all .1) ∙ ap (λ (l : List ℕ). l ++ fromStates) (part Centres c C (w .first))
+  split : (section : Section) → wordsBy shape runs ≡ before section ++ (part section ++ after section)
+  split Centres = refl
+  split States = refl
+  split Requests = ap (λ (ws : List ℕ). editionWord (shape .edition) ∷ ws) (sym (append-assoc (part Centres) (part States) (part Requests ++ [])))
 
-  at-states : wordsFrom file (statesPlace c) ≡ s ∷ (S ++ fromRequests)
-  at-states =
-      from-place (statesPlace c) (1 ∷ sectionWords Centres C) fromStates refl (omega (arith, w .first)) below-states
-      ∙ ap (λ (l : List ℕ). l ++ fromRequests) (part States s S (w .second))
+  placed : (section : Section) → placeOf shape section ≡ 8 * length (before section)
+  placed Centres = refl
+  placed States = omega (arith, whole Centres)
+  placed Requests = omega (arith, length-append (part Centres) (part States), whole Centres, whole States)
 
-  at-requests : wordsFrom file (requestsPlace c s) ≡ r ∷ (R ++ [])
-  at-requests =
-      let pre : List ℕ = 1 ∷ (sectionWords Centres C ++ sectionWords States S) in
-      let split : 1 ∷ fromCentres ≡ pre ++ fromRequests =
-      ap (λ (l : List ℕ). 1 ∷ l) (sym (append-assoc (sectionWords Centres C) (sectionWords States S) fromRequests))
-      in
-      let sum = length-append (sectionWords Centres C) (sectionWords States S) in
-      from-place (requestsPlace c s) pre fromRequests split (omega (arith, sum, w .first, w .second))
-      (behind (2 ^ 64) (sectionWords States S) fromRequests below-states)
-      ∙ part Requests r R (w .third) ∙ ap (λ (l : List ℕ). r ∷ l) (sym (append-nil R))
+  module _ (are : Below (2 ^ 64) (wordsBy shape runs)) where
+    here : (section : Section) → wordsFrom file (placeOf shape section) ≡ part section ++ after section
+    here section =
+        ap₂ (λ (ws : List ℕ) (place : ℕ). wordsFrom (asBytes ws) place) (split section) (placed section)
+        ∙ words-after (before section) (part section ++ after section)
+        (behind (2 ^ 64) (before section) (part section ++ after section) (subst (Below (2 ^ 64)) (split section) are))
 
-  room-8 : (8 + 8 ≤ length file) × (statesPlace c + 8 ≤ length file) × (requestsPlace c s + 8 ≤ length file)
-  room-8 = (omega (arith, file-length), omega (arith, file-length), omega (arith, file-length))
+    count : (section : Section) → wordAt file (placeOf shape section) ≡ countOf shape section
+    count section = found-count file shape section runs (after section) (here section) (whole section)
 
-  pub centres-count : wordAt file 8 ≡ c
-  centres-count = found-count file 8 Centres 0 c C fromStates (room-8 .0) at-centres (w .first)
+    pub file-held : (section : Section) → held file shape section ≡ runs section
+    file-held section = found-run file shape section runs (after section) (here section) (whole section)
 
-  pub states-count : wordAt file (statesPlace c) ≡ s
-  states-count = found-count file (statesPlace c) States c s S fromRequests (room-8 .1) at-states (w .second)
+    -- Its edition, and its shape.
+    enough : 8 ≤ length file
+    enough = omega (arith, file-length)
 
-  pub requests-count : wordAt file (requestsPlace c s) ≡ r
-  requests-count = found-count file (requestsPlace c s) Requests s r R [] (room-8 .2) at-requests (w .third)
+    first-word : wordAt file 0 ≡ editionWord (shape .edition)
+    first-word =
+        let opened : wordAt file 0 ∷ wordsFrom file 8 ≡ wordsBy shape runs = sym (next-word file 0 enough) ∙ words-after [] (wordsBy shape runs) are in
+        cc opened
 
-  -- The counts, each found where the ones before it tell.
-  pub counts-are : (wordAt file 8 ≡ c)
-      × (wordAt file (statesPlace (wordAt file 8)) ≡ s)
-      × (wordAt file (requestsPlace (wordAt file 8) (wordAt file (statesPlace (wordAt file 8)))) ≡ r)
-  counts-are =
-      let fs = ap (λ (k : ℕ). wordAt file (statesPlace k)) centres-count ∙ states-count in
-      (centres-count, fs, ap₂ (λ (k l : ℕ). wordAt file (requestsPlace k l)) centres-count fs ∙ requests-count)
+    first-sound : firstCheck file ≡ Sound
+    first-sound = sound-edition file (isEdition (wordAt file 0)) enough (ap isEdition first-word ∙ known-word (shape .edition))
 
-  pub centres-held : runAt file 8 Centres ≡ C
-  centres-held = found-run file 8 Centres 0 c C fromStates (room-8 .0) at-centres (w .first)
+    pub file-shape : shapeIn (editionIn file) file ≡ shape
+    unfolding shapeIn
+    file-shape =
+        let edition = ap editionOf first-word ∙ edition-back (shape .edition) in
+        let centres = count Centres in
+        let states : wordAt file (placeOf (shapeOf (editionIn file) (wordAt file 8) 0 0) States) ≡ shape .states =
+        (λ i. wordAt file (placeOf (shapeOf (edition i) (centres i) 0 0) States)) ∙ count States
+        in
+        let requests = (λ i. wordAt file (placeOf (shapeOf (edition i) (centres i) (states i) 0) Requests)) ∙ count Requests in
+        λ i. record { edition = edition i; centres = centres i; states = states i; requests = requests i }
 
-  pub states-held : runAt file (statesPlace c) States ≡ S
-  states-held = found-run file (statesPlace c) States c s S fromRequests (room-8 .1) at-states (w .second)
+    -- The reader's judgement, by the writer's checks of each run.
+    pub file-check : fileCheck file ≡ each (λ section. limitCheck shape section (countOf shape section) ⟫ runCheck (runs section) shape section) sections
+    unfolding fileCheck sectionsCheck sectionCheck each shapeIn
+    file-check =
+        let found : (section : Section) → sectionCheck file shape section ≡ (limitCheck shape section (countOf shape section) ⟫ runCheck (runs section) shape section) =
+        λ section. found-check file shape section runs (after section) (here section) (whole section)
+        in
+        let end : endCheck file (endOf shape) ≡ Sound = sound-need _ 25 (endOf shape) (le-leb (length file) (endOf shape) (omega (arith, file-length))) in
+        ap (λ (x : Shape). firstCheck file ⟫ sectionCheck file x Centres ⟫ sectionCheck file x States ⟫ sectionCheck file x Requests ⟫ endCheck file (endOf x)) file-shape
+        ∙ (λ i. first-sound i ⟫ found Centres i ⟫ found States i ⟫ found Requests i ⟫ end i)
 
-  pub requests-held : runAt file (requestsPlace c s) Requests ≡ R
-  requests-held = found-run file (requestsPlace c s) Requests s r R [] (room-8 .2) at-requests (w .third)
+-- ---- An accepted file.
+module _ (file : List ℕ) (sound : fileCheck file ≡ Sound) where
+  abbrev shape : Shape
+  shape = shapeIn (editionIn file) file
 
-  edition : editionCheck file elementEdition ≡ Sound
-  edition =
-      let whole : 8 ≤ length file = omega (arith, file-length) in
-      let first : wordAt file 0 ∷ wordsFrom file 8 ≡ 1 ∷ fromCentres = sym (next-word file 0 whole) ∙ at-edition in
-      let one : wordAt file 0 ≡ 1 = cc first in
-      sound-edition file elementEdition whole one
+  abbrev held-words : Section → List ℕ
+  held-words = sectionWords shape (held file shape)
 
-  end : endCheck file (endPlace c s r) ≡ Sound
-  end =
-      let up-to : length file ≤ endPlace c s r = omega (arith, file-length) in
-      sound-need _ 25 (endPlace c s r) (le-leb _ _ up-to)
+  pub held-proper : (section : Section) → Proper shape (held file shape) section
+  held-proper section = read-proper file shape section (section-sound file sound section) (count-in (editionIn file) file section)
 
-  -- The reader's judgement, by the writer's checks of each run.
-  pub file-check : fileCheck file
-      ≡ ((limitCheck Centres 8 c ⟫ numberCheck Centres 0 8 C)
-      ⟫ (limitCheck States (statesPlace c) s ⟫ numberCheck States c (statesPlace c) S)
-      ⟫ (limitCheck Requests (requestsPlace c s) r ⟫ numberCheck Requests s (requestsPlace c s) R)
-      ⟫ Sound)
-  unfolding fileCheck
-  file-check =
-      let checks : ℕ → ℕ → ℕ → Check =
-      λ c s r.
-      editionCheck file elementEdition
-      ⟫ sectionCheck file centresPlace Centres 0
-      ⟫ sectionCheck file (statesPlace c) States c
-      ⟫ sectionCheck file (requestsPlace c s) Requests s
-      ⟫ endCheck file (endPlace c s r)
-      in
-      let of-centres = found-check file 8 Centres 0 c C fromStates (room-8 .0) at-centres (w .first) in
-      let of-states = found-check file (statesPlace c) States c s S fromRequests (room-8 .1) at-states (w .second) in
-      let of-requests = found-check file (requestsPlace c s) Requests s r R [] (room-8 .2) at-requests (w .third) in
-      (λ i. checks (counts-are .0 i) (counts-are .1 i) (counts-are .2 i))
-      ∙ (λ i. edition i ⟫ of-centres i ⟫ of-states i ⟫ of-requests i ⟫ end i)
+  next : (section : Section) → wordsFrom file (placeOf shape section) ≡ held-words section ++ wordsFrom file (placeOf shape section + spanOf shape section)
+  next section = read-words file shape section (section-sound file sound section) (count-in (editionIn file) file section)
 
--- The file of sound sections is sound.
-pub file-sound : (C S R : List ℕ) (c s r : ℕ) → ProperFile C S R c s r → Below (2 ^ 64) (fileWords C S R) → fileCheck (fileOf C S R) ≡ Sound
-file-sound C S R c s r p are =
-    file-check C S R c s r (proper-whole C S R c s r p) are
-    ∙ sound-both _ _ (proper-sound Centres (p .first))
-    (sound-both _ _ (proper-sound States (p .second)) (sound-both _ Sound (proper-sound Requests (p .third)) refl))
+  words-are : wordsFrom file 0 ≡ wordsBy shape (held file shape)
+  unfolding shapeIn
+  words-are =
+      let first = edition-sound file sound in
+      let last : wordsFrom file (endOf shape) ≡ [] = no-word file (endOf shape) (omega (arith, sound-length file sound)) in
+      next-word file 0 (first .0)
+      ∙ ap₂ _∷_ (sym (word-back (wordAt file 0) (first .1)))
+      (next Centres
+      ∙ ap (λ (ws : List ℕ). held-words Centres ++ ws)
+      (next States ∙ ap (λ (ws : List ℕ). held-words States ++ ws) (next Requests ∙ ap (λ (ws : List ℕ). held-words Requests ++ ws) last)))
+
+  pub read-bytes : Below 256 file → asBytes (wordsBy shape (held file shape)) ≡ file
+  read-bytes h =
+      let n = 4 + wordsOf shape Centres + wordsOf shape States + wordsOf shape Requests in
+      ap asBytes (sym words-are) ∙ whole-file file n h (omega (arith, sound-length file sound))
+
+-- ---- The stores of the writer, one after another.
+then-words : (room xs ys : List ℕ) (n : ℕ) → n ≡ 8 * length xs → 8 * (length xs + length ys) ≤ length room →
+    put (put room 0 (asBytes xs)) n (asBytes ys) ≡ put room 0 (asBytes (xs ++ ys))
+then-words room xs ys n e h =
+    let a : length (asBytes xs) ≡ 8 * length xs = length-as-bytes xs in
+    let b : length (asBytes ys) ≡ 8 * length ys = length-as-bytes ys in
+    put-next room (asBytes xs) (asBytes ys) 0 n (omega arith) (omega arith) ∙ ap (put room 0) (sym (as-bytes-append xs ys))
+
+pub file-put : (shape : Shape) (runs : Runs) (room d1 d2 d3 d4 : List ℕ) → Fits shape runs (length room) →
+    d1 ≡ put room 0 (bytesOf 8 (editionWord (shape .edition))) →
+    d2 ≡ put d1 (placeOf shape Centres) (asBytes (sectionWords shape runs Centres)) →
+    d3 ≡ put d2 (placeOf shape States) (asBytes (sectionWords shape runs States)) →
+    d4 ≡ put d3 (placeOf shape Requests) (asBytes (sectionWords shape runs Requests)) →
+    d4 ≡ put room 0 (asBytes (wordsBy shape runs))
+unfolding asBytes bytesOf
+file-put shape runs room d1 d2 d3 d4 f e1 e2 e3 e4 =
+    let part = sectionWords shape runs in
+    let placed-at = placed shape runs (f .whole) in
+    let long = length-append (part Centres) (part States) in
+    e4
+    ∙ ap (λ (d : List ℕ). put d (placeOf shape Requests) (asBytes (part Requests)))
+    (e3
+    ∙ ap (λ (d : List ℕ). put d (placeOf shape States) (asBytes (part States)))
+    (e2
+    ∙ ap (λ (d : List ℕ). put d (placeOf shape Centres) (asBytes (part Centres))) e1
+    ∙ then-words room (before shape runs (f .whole) Centres) (part Centres) (placeOf shape Centres) (placed-at Centres) (omega (arith, f .roomy, f .whole Centres)))
+    ∙ then-words room (before shape runs (f .whole) States) (part States) (placeOf shape States) (placed-at States) (omega (arith, f .roomy, f .whole Centres, f .whole States)))
+    ∙ then-words room (before shape runs (f .whole) Requests) (part Requests) (placeOf shape Requests) (placed-at Requests)
+    (omega (arith, long, f .roomy, f .whole Centres, f .whole States, f .whole Requests))
+    ∙ ap (λ (ws : List ℕ). put room 0 (asBytes (editionWord (shape .edition) ∷ ws)))
+    (append-assoc (part Centres) (part States) (part Requests) ∙ ap (λ (ws : List ℕ). part Centres ++ (part States ++ ws)) (sym (append-nil (part Requests))))

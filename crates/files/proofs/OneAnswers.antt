@@ -5,4 +5,4 @@ use Rattle.files.proofs.write_file.Kinds as write-kinds
 use Rattle.files.proofs.write_file.Reads as write-reads
 
 pub write-file-one : OneAnswer 4 write-kinds.ps write-kinds.r write-reads.Post
-write-file-one κs a x y v w p q = (p .0 ∙ sym (q .0), λ i. (tt, (tt, (tt, ((p .1 ∙ sym (q .1)) i, tt)))))
+write-file-one κs a x y v w p q = (p .0 ∙ sym (q .0), λ i. (tt, (tt, (tt, (tt, ((p .1 ∙ sym (q .1)) i, tt))))))

@@ -5,52 +5,64 @@ use mathlib.Core.Bool.{Bool, true, false}
 use mathlib.Core.Logic.{_⊎_, inl, inr, ⊎-elim}
 use mathlib.Core.Path.{_≡_, refl, ap, sym, _∙_}
 use mathlib.Core.List.{List, [], _∷_, _++_}
-use borrow.Author.Tests.{leb-false, eqb-true}
+use borrow.Author.Tests.{leb-false}
 use lib.Dec.{ltb, leb, eqb}
 use lib.ListN.{length}
 use Rattle.bits.specs.Choice.{pick}
 use Rattle.files_words.specs.Bytes.{Below}
-use Rattle.files_sections.specs.declared.sections.Section.{Section}
-use Rattle.files_sections.specs.declared.sections.Section.the-variants.{Centres, States, Requests}
-use Rattle.files_sections.specs.declared.checks.Check.{Check}
-use Rattle.files_sections.specs.declared.checks.Check.the-variants.{Sound, Fault}
-use Rattle.files_sections.specs.Checks.{told, _⟫_, begins, Ruling, walk, rulingOf}
-use Rattle.files_sections.specs.Sections.{widthOf, limitOf, ruleOf, statesPlace, requestsPlace}
-use Rattle.files_sections.proofs.CheckLaws.{fault-is-not-sound, both, needed, needed-not, first-fault}
-use Rattle.files_sections.proofs.WalkLaws.{walk-any}
+use Rattle.files_records.specs.Records.{AllOf, sameColumn}
+use Rattle.files_records.proofs.Steps.{more}
+use Rattle.files_checks.specs.declared.Check.{Check}
+use Rattle.files_checks.specs.declared.Check.the-variants.{Sound, Fault}
+use Rattle.files_checks.specs.Checks.{told, _⟫_, Ruling, walk}
+use Rattle.files_checks.proofs.CheckLaws.{fault-is-not-sound, needed-not, in-a-row, first-fault}
+use Rattle.files_formats.specs.declared.kinds.Kind.{Kind}
+use Rattle.files_formats.specs.declared.kinds.Kind.the-variants.{Figure, Number}
+use Rattle.files_formats.specs.declared.elements.Edition.{Edition}
+use Rattle.files_formats.specs.declared.elements.Section.{Section}
+use Rattle.files_formats.specs.declared.shapes.Shape.{Shape}
+use Rattle.files_formats.specs.Kinds.{faultOf, kindAt, rulingOf}
+use Rattle.files_formats.specs.Elements.{kindsOf, sections, limitOf, widthOf}
+use Rattle.files_formats.specs.Shapes.{countOf, belowOf, spanOf, placeOf, endOf, runCheck}
 use Rattle.files_reader.specs.declared.Reading.the-variants.{Sections}
 use Rattle.files_reader.specs.declared.Reading.the-variants as reading
-use Rattle.files_reader.specs.Reader.{fileCheck, sectionsOf, readingBy, readingOf}
+use Rattle.files_reader.specs.Reader.{editionIn, shapeIn, fileCheck, readingBy, readingOf}
 use Rattle.files.specs.declared.Writing.the-variants.{Refused}
-use Rattle.files.specs.Writer.{recordsIn, wholeCheck, wholeChecks, limitCheck, limitChecks, numberCheck, numberChecks, sizeOf, roomCheck, writeCheck}
-use Rattle.files.specs.Writer.{fileWords, fileOf, writingBy, writingOf}
-use Rattle.files.specs.Held.{RefusesAlike}
-use Rattle.files.proofs.WriteLaws.{limits-sound}
-use Rattle.files.proofs.SectionLaws.{of-records}
-use Rattle.files.proofs.FileLaws.{WholeRuns, file-length, file-check}
+use Rattle.files.specs.Writer.{Runs, shapeBy, each, indexOf, wholeCheck, limitCheck, roomCheck, wholeChecks, limitChecks, wordChecks, writeCheck}
+use Rattle.files.specs.Writer.{wordsBy, fileOf, writingBy, writingOf}
+use Rattle.files.specs.Held.{RefusedAlike, RefusesAlike}
+use Rattle.files.proofs.SectionLaws.{Whole}
+use Rattle.files.proofs.JudgeLaws.{whole-runs, few-records}
+use Rattle.files.proofs.FileLaws.{file-length, file-check}
 
--- ---- The faults of each kind of check, by number and place.
+-- ---- Checks whose faults are all of one number: a fault of another number is not theirs.
+abbrev Tells : Check → ℕ → Type 0
+Tells check k = (m q : ℕ) → check ≡ Fault m q → m ≡ k
 
-limit-fault : (section : Section) (place count : ℕ) {number at : ℕ} → limitCheck section place count ≡ Fault number at → (number ≡ 23) × (at ≡ place)
-limit-fault section place count e = let f = needed-not (leb count (limitOf section)) 23 place e in (f .1, f .2)
+past : {a b : Check} {m p k : ℕ} → Tells a k → (m ≡ k → ⊥) → (a ⟫ b) ≡ Fault m p → (a ≡ Sound) × (b ≡ Fault m p)
+past {a} {b} t other e = ⊎-elim (λ f. absurd (other (t _ _ f))) (λ f. f) (first-fault a b e)
 
-room-fault : (size room : ℕ) {number at : ℕ} → roomCheck size room ≡ Fault number at → (number ≡ 26) × (at ≡ size) × (room < size)
-room-fault size room e = let f = needed-not (leb size room) 26 size e in (f .1, f .2, leb-false _ _ (f .0))
+here : {a b : Check} {m p k : ℕ} → Tells b k → (m ≡ k → ⊥) → (a ⟫ b) ≡ Fault m p → a ≡ Fault m p
+here {a} {b} t other e = ⊎-elim (λ f. f) (λ f. absurd (other (t _ _ (f .1)))) (first-fault a b e)
 
--- A rule says nothing, or 24.
-zero-or-24 : (section : Section) (below : ℕ) (before : List ℕ) (w : ℕ) →
-    (rulingOf (ruleOf section below) before w ≡ 0) ⊎ (rulingOf (ruleOf section below) before w ≡ 24)
-zero-or-24 section below before w = by section
+each-tells : (check : Section → Check) {k : ℕ} → ((section : Section) → Tells (check section) k) → (those : List Section) → Tells (each check those) k
+unfolding each
+each-tells check t [] m q e = fault-is-not-sound (sym e)
+each-tells check t (section ∷ rest) m q e = ⊎-elim (t section m q) (λ f. each-tells check t rest m q (f .1)) (first-fault (check section) (each check rest) e)
+
+wholes-tell : (edition : Edition) (runs : Runs) → Tells (wholeChecks edition runs) 27
+wholes-tell edition runs =
+    each-tells (λ section. wholeCheck edition section (length (runs section)))
+    (λ section m q f. needed-not (eqb (length (runs section) % widthOf edition section) 0) 27 (indexOf section) f .1) sections
+
+-- ---- The walk of a section tells 24, at one of its words.
+zero-or-24 : (kind : Kind) (below : ℕ) (before : List ℕ) (w : ℕ) → (faultOf kind below before w ≡ 0) ⊎ (faultOf kind below before w ≡ 24)
+zero-or-24 Figure below before w = inl refl
+zero-or-24 Number below before w = picked (ltb w below)
   where
-    picked : (b t : Bool) → (_≡_ {A = ℕ} (pick b (pick t 0 24) 0) 0) ⊎ (_≡_ {A = ℕ} (pick b (pick t 0 24) 0) 24)
-    picked true true = inl refl
-    picked true false = inr refl
-    picked false t = inl refl
-
-    by : (section : Section) → (rulingOf (ruleOf section below) before w ≡ 0) ⊎ (rulingOf (ruleOf section below) before w ≡ 24)
-    by Centres = inl refl
-    by States = picked (begins (widthOf States) (length before)) (ltb w below)
-    by Requests = picked (begins (widthOf Requests) (length before)) (ltb w below)
+    picked : (t : Bool) → (_≡_ {A = ℕ} (pick t 0 24) 0) ⊎ (_≡_ {A = ℕ} (pick t 0 24) 24)
+    picked true = inl refl
+    picked false = inr refl
 
 told-24 : (k place : ℕ) {number at : ℕ} → (k ≡ 0) ⊎ (k ≡ 24) → told k place ≡ Fault number at → (number ≡ 24) × (at ≡ place)
 told-24 k place (inl z) e = fault-is-not-sound (sym (ap (λ (n : ℕ). told n place) (sym z) ∙ e))
@@ -68,195 +80,164 @@ walk-fault ruling kind place before (suc n) (w ∷ ws) h e =
     (λ f. let t = walk-fault ruling kind (place + 8) (before ++ (w ∷ [])) n ws (omega arith) (f .1) in (t .0, omega (arith, t .1)))
     (first-fault (told (ruling before w) place) (walk ruling (place + 8) (before ++ (w ∷ [])) n ws) e)
 
-number-fault : (section : Section) (below place : ℕ) (run : List ℕ) {number at : ℕ} → numberCheck section below place run ≡ Fault number at →
-    (number ≡ 24) × (at < place + 8 + 8 * length run)
-number-fault section below place run e = walk-fault (rulingOf (ruleOf section below)) (zero-or-24 section below) (place + 8) [] (length run) run (omega arith) e
+ruled : (kinds : List Kind) (below : ℕ) (before : List ℕ) (w : ℕ) → (rulingOf kinds below before w ≡ 0) ⊎ (rulingOf kinds below before w ≡ 24)
+unfolding rulingOf
+ruled kinds below before w = zero-or-24 (kindAt kinds (length before % length kinds)) below (sameColumn (length kinds) before) w
 
-whole-one : (section : Section) (index words : ℕ) {number at : ℕ} → wholeCheck section index words ≡ Fault number at → number ≡ 27
-whole-one section index words e = needed-not (eqb (words % widthOf section) 0) 27 index e .1
+run-fault : (run : List ℕ) (shape : Shape) (section : Section) {number at : ℕ} → runCheck run shape section ≡ Fault number at →
+    (number ≡ 24) × (at < placeOf shape section + 8 + 8 * length run)
+unfolding runCheck
+run-fault run shape section e =
+    let kinds = kindsOf (shape .edition) section in
+    walk-fault (rulingOf kinds (belowOf shape section)) (ruled kinds (belowOf shape section))
+    (placeOf shape section + 8) [] (length run) run (omega arith) e
 
-whole-fault : (centres states requests : ℕ) {number at : ℕ} → wholeChecks centres states requests ≡ Fault number at → number ≡ 27
-unfolding wholeChecks
-whole-fault centres states requests e =
-    ⊎-elim
-    (λ f. whole-one Centres 0 centres f)
-    (λ f.
-    ⊎-elim
-    (λ g. whole-one States 1 states g)
-    (λ g. whole-one Requests 2 requests (g .1))
-    (first-fault (wholeCheck States 1 states) (wholeCheck Requests 2 requests) (f .1)))
-    (first-fault (wholeCheck Centres 0 centres) (wholeCheck States 1 states ⟫ wholeCheck Requests 2 requests) e)
+-- ---- The same checks in the writer's order, all counts before all words, and in the reader's, section by section.
+abbrev Either23 : Check → ℕ → Type 0
+Either23 check p = (check ≡ Fault 23 p) ⊎ ((at : ℕ) × (at < p) × (check ≡ Fault 24 at))
 
--- ---- The same checks in the writer's order and in the reader's: the limits l, the numbers n, those of the centres being always sound.
-abbrev written : (l1 l2 l3 n2 n3 room : Check) → Check
-written l1 l2 l3 n2 n3 room = (l1 ⟫ l2 ⟫ l3) ⟫ (Sound ⟫ n2 ⟫ n3) ⟫ room
+one-section : (l n ls both : Check) {p bound : ℕ} → ((m q : ℕ) → n ≡ Fault m q → (m ≡ 24) × (q < bound)) → (ls ≡ Fault 23 p → bound ≤ p) →
+    (ls ≡ Fault 23 p → Either23 both p) → (l ⟫ ls) ≡ Fault 23 p → Either23 ((l ⟫ n) ⟫ both) p
+one-section (Fault m q) n ls both t later rest e = inl e
+one-section Sound Sound ls both t later rest e = rest e
+one-section Sound (Fault m q) ls both t later rest e = let f = t m q refl in inr (q, omega (arith, f .1, later e), ap (λ (k : ℕ). Fault k q) (f .0))
 
-abbrev read : (l1 l2 l3 n2 n3 : Check) → Check
-read l1 l2 l3 n2 n3 = (l1 ⟫ Sound) ⟫ (l2 ⟫ n2) ⟫ (l3 ⟫ n3) ⟫ Sound
+module _ (shape : Shape) (runs : Runs) (whole : Whole shape runs) where
+  abbrev limit : Section → Check
+  limit section = limitCheck shape section (countOf shape section)
 
--- Each tells faults of its own number; the third limit stands at a place that is beyond the numbers of the states.
-record Kinds (l1 l2 l3 n2 n3 room : Check) (third : ℕ) : Type 0 where
-  k1 : {m q : ℕ} → l1 ≡ Fault m q → m ≡ 23
-  k2 : {m q : ℕ} → l2 ≡ Fault m q → m ≡ 23
-  k3 : {m q : ℕ} → l3 ≡ Fault m q → (m ≡ 23) × (q ≡ third)
-  k4 : {m q : ℕ} → n2 ≡ Fault m q → (m ≡ 24) × (q < third)
-  k5 : {m q : ℕ} → n3 ≡ Fault m q → m ≡ 24
-  k6 : {m q : ℕ} → room ≡ Fault m q → m ≡ 26
+  abbrev words : Section → Check
+  words section = runCheck (runs section) shape section
 
--- A fault is not of two numbers.
-no-two : {A : Type 0} {m n p q : ℕ} (k : ℕ) → Fault m p ≡ Fault n q → m ≡ k → (k ≡ n → ⊥) → A
-no-two {m = m} {n = n} k e z other = let f : m ≡ n = cc e in absurd (other (sym z ∙ f))
+  abbrev in-turn : List Section → Check
+  in-turn those = each (λ section. limit section ⟫ words section) those
 
-by-number : (l1 l2 l3 n2 n3 room : Check) {third p : ℕ} → Kinds l1 l2 l3 n2 n3 room third → written l1 l2 l3 n2 n3 room ≡ Fault 24 p →
-    ((l1 ⟫ l2 ⟫ l3) ≡ Sound) × (read l1 l2 l3 n2 n3 ≡ Fault 24 p)
-by-number (Fault m q) l2 l3 n2 n3 room k e = no-two 23 e (k .k1 refl) (λ z. omega (arith, z))
-by-number Sound (Fault m q) l3 n2 n3 room k e = no-two 23 e (k .k2 refl) (λ z. omega (arith, z))
-by-number Sound Sound (Fault m q) n2 n3 room k e = no-two 23 e (k .k3 refl .0) (λ z. omega (arith, z))
-by-number Sound Sound Sound (Fault m q) n3 room k e = (refl, e)
-by-number Sound Sound Sound Sound (Fault m q) room k e = (refl, e)
-by-number Sound Sound Sound Sound Sound (Fault m q) k e = no-two 26 e (k .k6 refl) (λ z. omega (arith, z))
-by-number Sound Sound Sound Sound Sound Sound k e = fault-is-not-sound (sym e)
+  limit-fault : (section : Section) {m q : ℕ} → limit section ≡ Fault m q → (m ≡ 23) × (q ≡ placeOf shape section)
+  limit-fault section e = let f = needed-not (leb (countOf shape section) (limitOf section)) 23 (placeOf shape section) e in (f .1, f .2)
 
-by-count : (l1 l2 l3 n2 n3 room : Check) {third p : ℕ} → Kinds l1 l2 l3 n2 n3 room third → written l1 l2 l3 n2 n3 room ≡ Fault 23 p →
-    (read l1 l2 l3 n2 n3 ≡ Fault 23 p) ⊎ ((at : ℕ) × (at < p) × (read l1 l2 l3 n2 n3 ≡ Fault 24 at))
-by-count (Fault m q) l2 l3 n2 n3 room k e = inl e
-by-count Sound (Fault m q) l3 n2 n3 room k e = inl e
-by-count Sound Sound (Fault m q) Sound n3 room k e = inl e
-by-count Sound Sound (Fault m q) (Fault n a) n3 room {p = p} k e =
-    let here : q ≡ p = cc e in
-    let before = k .k4 refl in
-    inr (a, omega (arith, here, k .k3 refl .1, before .1), ap (λ (x : ℕ). Fault x a) (before .0))
-by-count Sound Sound Sound (Fault m q) n3 room k e = no-two 24 e (k .k4 refl .0) (λ z. omega (arith, z))
-by-count Sound Sound Sound Sound (Fault m q) room k e = no-two 24 e (k .k5 refl) (λ z. omega (arith, z))
-by-count Sound Sound Sound Sound Sound (Fault m q) k e = no-two 26 e (k .k6 refl) (λ z. omega (arith, z))
-by-count Sound Sound Sound Sound Sound Sound k e = fault-is-not-sound (sym e)
+  limits-tell : Tells (limitChecks shape) 23
+  limits-tell = each-tells limit (λ section m q e. limit-fault section e .0) sections
 
-by-room : (l1 l2 l3 n2 n3 room : Check) {third p : ℕ} → Kinds l1 l2 l3 n2 n3 room third → written l1 l2 l3 n2 n3 room ≡ Fault 26 p →
-    (read l1 l2 l3 n2 n3 ≡ Sound) × (room ≡ Fault 26 p)
-by-room (Fault m q) l2 l3 n2 n3 room k e = no-two 23 e (k .k1 refl) (λ z. omega (arith, z))
-by-room Sound (Fault m q) l3 n2 n3 room k e = no-two 23 e (k .k2 refl) (λ z. omega (arith, z))
-by-room Sound Sound (Fault m q) n2 n3 room k e = no-two 23 e (k .k3 refl .0) (λ z. omega (arith, z))
-by-room Sound Sound Sound (Fault m q) n3 room k e = no-two 24 e (k .k4 refl .0) (λ z. omega (arith, z))
-by-room Sound Sound Sound Sound (Fault m q) room k e = no-two 24 e (k .k5 refl) (λ z. omega (arith, z))
-by-room Sound Sound Sound Sound Sound room k e = (refl, e)
+  words-tell : Tells (wordChecks shape runs) 24
+  words-tell = each-tells words (λ section m q e. run-fault (runs section) shape section e .0) sections
+
+  -- Where no count is above its limit, the words decide.
+  by-words : (those : List Section) → each limit those ≡ Sound → in-turn those ≡ each words those
+  unfolding each
+  by-words [] e = refl
+  by-words (section ∷ rest) e = one (limit section) (words section) _ e (by-words rest)
+    where
+      one : (l n ls : Check) {both ns : Check} → (l ⟫ ls) ≡ Sound → (ls ≡ Sound → both ≡ ns) → ((l ⟫ n) ⟫ both) ≡ (n ⟫ ns)
+      one Sound n ls e rest = ap (λ (k : Check). n ⟫ k) (rest e)
+      one (Fault m q) n ls e rest = fault-is-not-sound e
+
+  -- Where one is, a bad word may stand before it.
+  abbrev Ascending : List Section → Type 0
+  Ascending [] = Unit {0}
+  Ascending (section ∷ rest) = AllOf (λ later. placeOf shape section + spanOf shape section ≤ placeOf shape later) rest × Ascending rest
+
+  not-before : (bound : ℕ) (those : List Section) → AllOf (λ section. bound ≤ placeOf shape section) those → {m p : ℕ} → each limit those ≡ Fault m p → bound ≤ p
+  unfolding each
+  not-before bound [] o e = fault-is-not-sound (sym e)
+  not-before bound (section ∷ rest) o e =
+      ⊎-elim (λ f. omega (arith, limit-fault section f .1, o .0)) (λ f. not-before bound rest (o .1) (f .1)) (first-fault (limit section) (each limit rest) e)
+
+  by-counts : (those : List Section) → Ascending those → {p : ℕ} → each limit those ≡ Fault 23 p → Either23 (in-turn those) p
+  unfolding each
+  by-counts [] o e = fault-is-not-sound (sym e)
+  by-counts (section ∷ rest) o e =
+      one-section (limit section) (words section) (each limit rest) (in-turn rest) {bound = placeOf shape section + spanOf shape section}
+      (λ m q f. let t = run-fault (runs section) shape section f in (t .0, omega (arith, t .1, whole section)))
+      (λ f. not-before _ rest (o .0) f)
+      (λ f. by-counts rest (o .1) f)
+      e
+
+  ascending : Ascending sections
+  ascending = ((omega arith, (omega arith, tt)), ((omega arith, tt), (tt, tt)))
 
 -- ---- Three runs, and the file that would have been.
 write-by : (k : Check) (n : ℕ) {number place : ℕ} → writingBy k n ≡ Refused number place → k ≡ Fault number place
 write-by Sound n e = let z : _≡_ {A = ℕ} 0 1 = cc in absurd (omega arith)
 write-by (Fault m q) n e = cc
 
-module _ (C S R : List ℕ) (are : Below (2 ^ 64) (fileWords C S R)) (size-of-room : ℕ) where
-  abbrev c : ℕ
-  c = recordsIn Centres (length C)
-
-  abbrev s : ℕ
-  s = recordsIn States (length S)
-
-  abbrev r : ℕ
-  r = recordsIn Requests (length R)
-
-  abbrev l1 : Check
-  l1 = limitCheck Centres 8 c
-
-  abbrev l2 : Check
-  l2 = limitCheck States (statesPlace c) s
-
-  abbrev l3 : Check
-  l3 = limitCheck Requests (requestsPlace c s) r
-
-  abbrev n2 : Check
-  n2 = numberCheck States c (statesPlace c) S
-
-  abbrev n3 : Check
-  n3 = numberCheck Requests s (requestsPlace c s) R
-
-  abbrev enough : Check
-  enough = roomCheck (sizeOf (length C) (length S) (length R)) size-of-room
-
-  -- No number of a centre is judged.
-  none : numberCheck Centres 0 8 C ≡ Sound
-  none = walk-any (8 + 8) [] (length C) C (omega arith)
-
-  -- What is left of the judgement where the runs are whole records.
-  past-27 : {number place : ℕ} → (number ≡ 27 → ⊥) → writeCheck C S R size-of-room ≡ Fault number place →
-      WholeRuns C S R c s r × (written l1 l2 l3 n2 n3 enough ≡ Fault number place)
-  unfolding writeCheck wholeChecks limitChecks numberChecks
-  past-27 other e =
-      ⊎-elim
-      (λ f. absurd (other (whole-fault (length C) (length S) (length R) f)))
-      (λ f.
-      let w = both _ _ (f .0) in
-      let v = both _ _ (w .1) in (
-        record {
-          first = of-records Centres (length C) (eqb-true _ _ (needed _ _ _ (w .0)));
-          second = of-records States (length S) (eqb-true _ _ (needed _ _ _ (v .0)));
-          third = of-records Requests (length R) (eqb-true _ _ (needed _ _ _ (v .1)));
-        },
-        ap (λ (x : Check). (l1 ⟫ l2 ⟫ l3) ⟫ (x ⟫ n2 ⟫ n3) ⟫ enough) (sym none) ∙ f .1,
-      ))
-      (first-fault (wholeChecks (length C) (length S) (length R)) (limitChecks c s r ⟫ numberChecks C S R ⟫ enough) e)
-
-  module _ (w : WholeRuns C S R c s r) where
-    kinds : Kinds l1 l2 l3 n2 n3 enough (requestsPlace c s)
-    kinds = record {
-      k1 = λ e. limit-fault Centres 8 c e .0;
-      k2 = λ e. limit-fault States (statesPlace c) s e .0;
-      k3 = λ e. limit-fault Requests (requestsPlace c s) r e;
-      k4 = λ e. let f = number-fault States c (statesPlace c) S e in (f .0, omega (arith, f .1, w .second));
-      k5 = λ e. number-fault Requests s (requestsPlace c s) R e .0;
-      k6 = λ e. room-fault (sizeOf (length C) (length S) (length R)) size-of-room e .0;
-    }
-
-    read-as : fileCheck (fileOf C S R) ≡ read l1 l2 l3 n2 n3
-    read-as =
-        file-check C S R c s r w are ∙ ap (λ (x : Check). (l1 ⟫ x) ⟫ (l2 ⟫ n2) ⟫ (l3 ⟫ n3) ⟫ Sound) none
-
--- The reader's answer to the file, by its judgement.
 refused-so : (file : List ℕ) {number place : ℕ} → fileCheck file ≡ Fault number place → readingOf file ≡ reading.Refused number place
 unfolding readingOf
-refused-so file e = ap (λ (k : Check). readingBy k (sectionsOf file)) e
+refused-so file e = ap (λ (k : Check). readingBy k (shapeIn (editionIn file) file)) e
 
-accepted-so : (file : List ℕ) → fileCheck file ≡ Sound → readingOf file ≡ Sections (sectionsOf file)
+accepted-so : (file : List ℕ) → fileCheck file ≡ Sound → readingOf file ≡ Sections (shapeIn (editionIn file) file)
 unfolding readingOf
-accepted-so file e = ap (λ (k : Check). readingBy k (sectionsOf file)) e
+accepted-so file e = ap (λ (k : Check). readingBy k (shapeIn (editionIn file) file)) e
 
-faulted : (C S R room : List ℕ) {number place : ℕ} → writingOf C S R room ≡ Refused number place → writeCheck C S R (length room) ≡ Fault number place
-unfolding writingOf
-faulted C S R room e = write-by _ _ e
+module _ (edition : Edition) (runs : Runs) (room : List ℕ) (are : Below (2 ^ 64) (wordsBy (shapeBy edition runs) runs)) where
+  abbrev shape : Shape
+  shape = shapeBy edition runs
 
-by-reader : (file : List ℕ) (place : ℕ) {x : Check} → fileCheck file ≡ x → (x ≡ Fault 23 place) ⊎ ((at : ℕ) × (at < place) × (x ≡ Fault 24 at)) →
-    (readingOf file ≡ reading.Refused 23 place) ⊎ ((at : ℕ) × (at < place) × (readingOf file ≡ reading.Refused 24 at))
-by-reader file place e (inl f) = inl (refused-so file (e ∙ f))
-by-reader file place e (inr f) = inr (f .0, f .1, refused-so file (e ∙ f .2))
+  abbrev file : List ℕ
+  file = fileOf edition runs
+
+  enough : Check
+  enough = roomCheck (endOf shape) (length room)
+
+  room-fault : {m p : ℕ} → enough ≡ Fault m p → (m ≡ 26) × (p ≡ endOf shape) × (length room < endOf shape)
+  unfolding enough
+  room-fault e = let f = needed-not (leb (endOf shape) (length room)) 26 (endOf shape) e in (f .1, f .2, leb-false _ _ (f .0))
+
+  room-tells : Tells enough 26
+  room-tells m q e = room-fault e .0
+
+  -- What is left of the judgement where the runs are whole records.
+  past-27 : {m p : ℕ} → (m ≡ 27 → ⊥) → writingOf edition runs room ≡ Refused m p → Whole shape runs × ((limitChecks shape ⟫ wordChecks shape runs ⟫ enough) ≡ Fault m p)
+  unfolding writingOf writeCheck enough
+  past-27 other e =
+      let f = past (wholes-tell edition runs) other (write-by (writeCheck edition runs (length room)) _ e) in
+      (whole-runs edition runs (f .0), f .1)
+
+  -- What the reader says of the file, and how long it is.
+  module _ (whole : Whole shape runs) where
+    read-as : fileCheck file ≡ in-turn shape runs whole sections
+    unfolding fileOf
+    read-as = file-check shape runs whole are
+
+    long : length file ≡ endOf shape
+    unfolding fileOf
+    long = file-length shape runs whole
+
+  by-reader : {place : ℕ} {x : Check} → fileCheck file ≡ x → Either23 x place →
+      (readingOf file ≡ reading.Refused 23 place) ⊎ ((at : ℕ) × (at < place) × (readingOf file ≡ reading.Refused 24 at))
+  by-reader e (inl f) = inl (refused-so file (e ∙ f))
+  by-reader e (inr f) = inr (f .0, f .1, refused-so file (e ∙ f .2))
+
+  alike : RefusedAlike edition runs room file
+  alike =
+      record {
+        by-number =
+            λ place e.
+            let p = past-27 (λ z. omega (arith, z)) e in
+            let l = past (limits-tell shape runs (p .0)) (λ z. omega (arith, z)) (p .1) in
+            let n : wordChecks shape runs ≡ Fault 24 place = here room-tells (λ z. omega (arith, z)) (l .1) in (
+              λ section. omega (arith, p .0 section, more (widthOf edition section) (few-records shape (l .0) section)),
+              refused-so file (read-as (p .0) ∙ by-words shape runs (p .0) sections (l .0) ∙ n),
+            );
+        by-count =
+            λ place e.
+            let p = past-27 (λ z. omega (arith, z)) e in
+            let n : (limitChecks shape ⟫ wordChecks shape runs) ≡ Fault 23 place =
+            here room-tells (λ z. omega (arith, z)) (in-a-row (limitChecks shape) (wordChecks shape runs) enough ∙ p .1)
+            in
+            let l = here (words-tell shape runs (p .0)) (λ z. omega (arith, z)) n in
+            by-reader (read-as (p .0)) (by-counts shape runs (p .0) sections (ascending shape runs (p .0)) l);
+        by-room =
+            λ needed e.
+            let p = past-27 (λ z. omega (arith, z)) e in
+            let l = past (limits-tell shape runs (p .0)) (λ z. omega (arith, z)) (p .1) in
+            let n = past (words-tell shape runs (p .0)) (λ z. omega (arith, z)) (l .1) in
+            let r = room-fault (n .1) in (
+              omega (arith, r .1, r .2),
+              omega (arith, r .1, long (p .0)),
+              shapeIn (editionIn file) file,
+              accepted-so file (read-as (p .0) ∙ by-words shape runs (p .0) sections (l .0) ∙ n .0),
+            );
+      }
 
 pub refuses-alike : RefusesAlike
-unfolding limitChecks
-refuses-alike C S R room are =
-    let file = fileOf C S R in
-    let n = length room in
-    record {
-      by-number =
-          λ place e.
-          let p = past-27 C S R are n (λ z. omega (arith, z)) (faulted C S R room e) in
-          let k = by-number _ _ _ _ _ _ (kinds C S R are n (p .0)) (p .1) in
-          let few = limits-sound (c C S R are n) (s C S R are n) (r C S R are n) (k .0) in (
-            omega (arith, few .0, p .0 .first),
-            omega (arith, few .1, p .0 .second),
-            omega (arith, few .2, p .0 .third),
-            refused-so file (read-as C S R are n (p .0) ∙ k .1),
-          );
-      by-count =
-          λ place e.
-          let p = past-27 C S R are n (λ z. omega (arith, z)) (faulted C S R room e) in
-          by-reader file place (read-as C S R are n (p .0)) (by-count _ _ _ _ _ _ (kinds C S R are n (p .0)) (p .1));
-      by-room =
-          λ needed e.
-          let p = past-27 C S R are n (λ z. omega (arith, z)) (faulted C S R room e) in
-          let k = by-room _ _ _ _ _ _ (kinds C S R are n (p .0)) (p .1) in
-          let f = room-fault (sizeOf (length C) (length S) (length R)) n (k .1) in (
-            omega (arith, f .1, f .2),
-            omega (arith, f .1, file-length C S R _ _ _ (p .0) are),
-            sectionsOf file,
-            accepted-so file (read-as C S R are n (p .0) ∙ k .0),
-          );
-    }
+refuses-alike = alike

@@ -1,18 +1,22 @@
 -- Small files, written by computing.
-use Prim.Native.Nat.{ℕ}
+use Prim.Native.Nat.{ℕ, _*_}
 use mathlib.Core.Path.{_≡_, refl}
 use mathlib.Core.List.{List, [], _∷_, _++_}
 use lib.ListN.{replicate}
 use Rattle.files_words.specs.Bytes.{asBytes}
+use Rattle.files_formats.specs.declared.elements.Edition.the-variants.{One}
+use Rattle.files_formats.specs.declared.elements.Section.the-variants.{Centres, States, Requests}
+use Rattle.files_formats.specs.Elements.{limitOf, widthOf}
 use Rattle.files_reader.specs.Cases.{p10File, one-each}
 use Rattle.files.specs.declared.Writing.{Writing}
 use Rattle.files.specs.declared.Writing.the-variants as writing
-use Rattle.files.specs.Writer.{writingOf, roomOf}
+use Rattle.files.specs.Writer.{runsOf, writingOf, roomOf}
 
 -- Three runs and a room of so many bytes, each 7: what the writer answers, and the room afterwards.
 abbrev pub Writes : List ℕ → List ℕ → List ℕ → ℕ → Writing → List ℕ → Type 0
 Writes centres states requests size answer after =
-    (writingOf centres states requests (replicate size 7) ≡ answer) × (roomOf centres states requests (replicate size 7) ≡ after)
+    (writingOf One (runsOf centres states requests) (replicate size 7) ≡ answer)
+    × (roomOf One (runsOf centres states requests) (replicate size 7) ≡ after)
 
 abbrev pub state : ℕ → List ℕ
 state centre = centre ∷ 7 ∷ 1 ∷ 2 ∷ 3 ∷ 4 ∷ 5 ∷ 6 ∷ []
@@ -89,3 +93,8 @@ second-centre-only = (refl, refl)
 no-room : Writes (398600 ∷ []) (state 0) (0 ∷ 9 ∷ []) 119 (writing.Refused 26 120) (replicate 119 7)
 unfolding writingOf roomOf asBytes
 no-room = (refl, refl)
+
+-- No more than these words, where 23 is past.
+most-words : (limitOf Centres * widthOf One Centres ≡ 16)
+    × (limitOf States * widthOf One States ≡ 8 * 500) × (limitOf Requests * widthOf One Requests ≡ 2 * 1500)
+most-words = (refl, refl, refl)

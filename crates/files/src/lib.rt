@@ -1,23 +1,26 @@
 // Layer 5: the writer of an element file: judges three runs of words, then writes them as a file.
 ghost use mathlib.Core.Path.{_≡_};
-ghost use mathlib.Core.List.{[]};
-ghost use Prim.Native.Nat.{_+_, _*_, _^_, _<_, _≤_};
+ghost use Prim.Native.Nat.{_+_, _*_, _≤_};
 ghost use lib.ListN.{length};
+ghost use mathlib.Core.List.{_∷_};
 ghost use Rattle.files_words.specs.Bytes.{put, asBytes};
-ghost use Rattle.files_sections.specs.Checks.{rulingOf, walk};
-ghost use Rattle.files.specs.Writer.{recordsIn, wholeCheck, wholeChecks, limitCheck, limitChecks, numberCheck, numberChecks, sizeOf, roomCheck};
-ghost use Rattle.files.specs.Writer.{Within, Fits, writeCheck, sectionWords, fileOf, writingOf, roomOf};
-use files_sections::CENTRES_PLACE;
-use files_sections::Check;
-use files_sections::ELEMENT_EDITION;
-use files_sections::Rule;
-use files_sections::Section;
-use files_sections::end_place;
-use files_sections::fault;
-use files_sections::first;
-use files_sections::need;
-use files_sections::requests_place;
-use files_sections::states_place;
+ghost use Rattle.files_checks.specs.Checks.{_⟫_};
+ghost use Rattle.files_formats.specs.Shapes.{countOf, placeOf, endOf};
+ghost use Rattle.files_reader.specs.Reader.{readingBy};
+ghost use Rattle.files.specs.Writer.{runsOf, shapeBy, indexOf, wholeCheck, countsShape, roomCheck, wordChecks, writeCheck};
+ghost use Rattle.files.specs.Writer.{wordsBy, writingOf, roomOf, countedBy, nextCount, Fits};
+use files_checks::Check;
+use files_checks::first;
+use files_checks::need;
+use files_formats::Edition;
+use files_formats::Section;
+use files_formats::Shape;
+use files_formats::check_run;
+use files_formats::edition_word;
+use files_formats::limit;
+use files_formats::width;
+use files_reader::Reading;
+use files_reader::read_by;
 use files_words::put_word;
 use files_words::put_words;
 
@@ -27,183 +30,155 @@ pub enum Writing {
     Refused { number: u64, place: usize },
 }
 
-// The records in so many words of a section.
-fn records(section: Section, words: usize) -> usize
-    ensures { λ r. ⌜ r ≡ recordsIn section words ⌝ }
+// Which of the sections it is, 0 to 2.
+fn index(section: Section) -> usize
+    ensures { λ r. ⌜ r ≡ indexOf section ⌝ }
 {
-    words / section.width() as usize
+    match section {
+        Section::Centres => 0,
+        Section::States => 1,
+        Section::Requests => 2,
+    }
 }
 
 // 27: a run is not whole records.
-fn check_whole(section: Section, index: usize, words: usize) -> Check
-    ensures { λ r. ⌜ r ≡ wholeCheck section index words ⌝ }
+fn check_whole(edition: Edition, section: Section, words: usize) -> Check
+    ensures { λ r. ⌜ r ≡ wholeCheck edition section words ⌝ }
 {
-    need(words % section.width() as usize == 0, 27, index)
+    need(words % width(edition, section) == 0, 27, index(section))
 }
 
-// The same for the three runs.
-fn check_wholes(centres: usize, states: usize, requests: usize) -> Check
-    ensures { λ r. ⌜ r ≡ wholeChecks centres states requests ⌝ }
+// 23: a count above its limit; else the shape with that count.
+fn count_records(shape: Shape, section: Section, count: usize) -> Reading
+    ensures { λ r. ⌜ r ≡ countedBy shape section count ⌝ }
 {
-    first(
-        check_whole(Section::Centres, 0, centres),
-        first(
-            check_whole(Section::States, 1, states),
-            check_whole(Section::Requests, 2, requests),
-        ),
-    )
-}
-
-// 23: a count above its limit.
-fn check_limit(section: Section, place: usize, count: usize) -> Check
-    ensures { λ r. ⌜ r ≡ limitCheck section place count ⌝ }
-{
-    need(count <= section.limit() as usize, 23, place)
-}
-
-// The same for the three counts. The place of a later one is asked for only once those before it are within their limits.
-fn check_limits(centres: usize, states: usize, requests: usize) -> Check
-    ensures { λ r. ⌜ r ≡ limitChecks centres states requests ⌝ }
-{
-    let of_centres = check_limit(Section::Centres, CENTRES_PLACE, centres);
-    let Check::Sound = of_centres else {
-        return of_centres;
-    };
-    let c = centres as u16;
-    let of_states = check_limit(Section::States, states_place(c), states);
-    let Check::Sound = of_states else {
-        return of_states;
-    };
-    check_limit(
-        Section::Requests,
-        requests_place(c, states as u16),
-        requests,
-    )
-}
-
-// The walk over a run whose first word would stand at a place.
-fn walk_run(run: &[u64], place: usize, rule: Rule) -> Check
-    requires { ⌜ place + 8 * length (now run) < 2 ^ 64 ⌝ }
-    ensures { λ r. ⌜ r ≡ walk (rulingOf rule) place [] (length (now (run .entry))) (now (run .entry)) ⌝ }
-{
-    let n = run.len();
-    let mut left = n;
-    while 0 < left {
-        let j = n - left;
-        let at = place + 8 * j;
-        let number = fault(rule, j, run[j]);
-        if number != 0 {
-            return Check::Fault { number, place: at };
-        }
-        left -= 1;
+    if count <= limit(section) as usize {
+        return Reading::Sections(shape.with(section, count as u16));
     }
-    Check::Sound
+    Reading::Refused {
+        number: 23,
+        place: shape.place(section),
+    }
 }
 
-// 24: a number not in its section, the section's count word being at a place.
-fn check_words(section: Section, below: usize, place: usize, run: &[u64]) -> Check
-    requires { ⌜ place + 8 + 8 * length (now run) < 2 ^ 64 ⌝ }
-    ensures { λ r. ⌜ r ≡ numberCheck section below place (now (run .entry)) ⌝ }
+// After what was judged so far, a section of so many words more.
+fn count_next(start: Reading, section: Section, words: usize) -> Reading
+    ensures { λ r. ⌜ r ≡ nextCount start section words ⌝ }
 {
-    walk_run(run, place + 8, section.rule(below))
+    match start {
+        Reading::Sections(shape) => {
+            let edition = shape.edition;
+            count_records(shape, section, words / width(edition, section))
+        }
+        Reading::Refused { number, place } => Reading::Refused { number, place },
+    }
 }
 
-// The same for the three runs.
-fn check_numbers(centres: &[u64], states: &[u64], requests: &[u64]) -> Check
-    requires { ⌜ Within (length (now centres)) (length (now states)) (length (now requests)) ⌝ }
-    ensures { λ r. ⌜ r ≡ numberChecks (now (centres .entry)) (now (states .entry)) (now (requests .entry)) ⌝ }
+// 27, then 23: the shape of the file that runs of so many words make.
+fn shape_by(edition: Edition, centres: usize, states: usize, requests: usize) -> Reading
+    ensures { λ r. ⌜ r ≡ countsShape edition centres states requests ⌝ }
 {
-    let c = records(Section::Centres, centres.len()) as u16;
-    let s = records(Section::States, states.len()) as u16;
-    first(
-        check_words(Section::Centres, 0, CENTRES_PLACE, centres),
+    let none = Shape {
+        edition,
+        centres: 0,
+        states: 0,
+        requests: 0,
+    };
+    let wholes = first(
+        check_whole(edition, Section::Centres, centres),
         first(
-            check_words(Section::States, c as usize, states_place(c), states),
-            check_words(
-                Section::Requests,
-                s as usize,
-                requests_place(c, s),
-                requests,
+            check_whole(edition, Section::States, states),
+            check_whole(edition, Section::Requests, requests),
+        ),
+    );
+    let start = read_by(wholes, none);
+    let one = count_next(start, Section::Centres, centres);
+    let two = count_next(one, Section::States, states);
+    count_next(two, Section::Requests, requests)
+}
+
+// 24: a number not in its section; then 26: less room than the file needs.
+fn check_words(
+    shape: Shape,
+    centres: &[u64],
+    states: &[u64],
+    requests: &[u64],
+    room: usize,
+) -> Check
+    ensures { λ r. ⌜ r ≡ (wordChecks shape (runsOf (now (centres .entry)) (now (states .entry)) (now (requests .entry))) ⟫ roomCheck (endOf shape) room) ⌝ }
+{
+    let size = shape.end();
+    first(
+        check_run(centres, shape, Section::Centres),
+        first(
+            check_run(states, shape, Section::States),
+            first(
+                check_run(requests, shape, Section::Requests),
+                need(size <= room, 26, size),
             ),
         ),
     )
 }
 
-// The bytes of the file that runs of so many words make.
-fn file_size(centres: usize, states: usize, requests: usize) -> usize
-    requires { ⌜ Within centres states requests ⌝ }
-    ensures { λ r. ⌜ r ≡ sizeOf centres states requests ⌝ }
+// 27, 23, 24, 26: the first refusal of the writer, or the shape of the file.
+fn judge(
+    edition: Edition,
+    centres: &[u64],
+    states: &[u64],
+    requests: &[u64],
+    room: usize,
+) -> Reading
+    ensures { λ r. ⌜ r ≡ readingBy (writeCheck edition (runsOf (now (centres .entry)) (now (states .entry)) (now (requests .entry))) room)
+        (shapeBy edition (runsOf (now (centres .entry)) (now (states .entry)) (now (requests .entry)))) ⌝ }
 {
-    end_place(
-        records(Section::Centres, centres) as u16,
-        records(Section::States, states) as u16,
-        records(Section::Requests, requests) as u16,
-    )
+    match shape_by(edition, centres.len(), states.len(), requests.len()) {
+        Reading::Sections(shape) => read_by(
+            check_words(shape, centres, states, requests, room),
+            shape,
+        ),
+        Reading::Refused { number, place } => Reading::Refused { number, place },
+    }
 }
 
-// 26: less room than the file needs.
-fn check_room(size: usize, room: usize) -> Check
-    ensures { λ r. ⌜ r ≡ roomCheck size room ⌝ }
+// A section put where a shape has it: its count, then its words.
+fn put_section(room: &mut [u8], shape: Shape, section: Section, run: &[u64])
+    requires { ⌜ placeOf shape section + 8 * (1 + length (now run)) ≤ length (now room) ⌝ }
+    ensures { λ _. ⌜ now (room .exit) ≡ put (now (room .entry)) (placeOf shape section) (asBytes (countOf shape section ∷ now (run .entry))) ⌝ }
 {
-    need(size <= room, 26, size)
-}
-
-// 27, 23, 24, 26: the first refusal of the writer, if any.
-fn judge(centres: &[u64], states: &[u64], requests: &[u64], room: usize) -> Check
-    ensures { λ r. ⌜ r ≡ writeCheck (now (centres .entry)) (now (states .entry)) (now (requests .entry)) room ⌝ }
-{
-    let wholes = check_wholes(centres.len(), states.len(), requests.len());
-    let Check::Sound = wholes else {
-        return wholes;
-    };
-    let limits = check_limits(
-        records(Section::Centres, centres.len()),
-        records(Section::States, states.len()),
-        records(Section::Requests, requests.len()),
-    );
-    let Check::Sound = limits else {
-        return limits;
-    };
-    let needed = file_size(centres.len(), states.len(), requests.len());
-    first(
-        check_numbers(centres, states, requests),
-        check_room(needed, room),
-    )
-}
-
-// A section put at a place: its count, then its words.
-fn put_section(room: &mut [u8], place: usize, section: Section, run: &[u64])
-    requires { ⌜ place + 8 * (1 + length (now run)) ≤ length (now room) ⌝ }
-    ensures { λ _. ⌜ now (room .exit) ≡ put (now (room .entry)) place (asBytes (sectionWords section (now (run .entry)))) ⌝ }
-{
-    put_word(room, place, records(section, run.len()) as u64);
+    let place = shape.place(section);
+    put_word(room, place, shape.count(section) as u64);
     put_words(room, place + 8, run);
 }
 
 // A whole file put at the start of a room.
-fn put_file(room: &mut [u8], centres: &[u64], states: &[u64], requests: &[u64])
-    requires { ⌜ Fits (now centres) (now states) (now requests) (length (now room)) ⌝ }
-    ensures { λ _. ⌜ now (room .exit) ≡ put (now (room .entry)) 0 (fileOf (now (centres .entry)) (now (states .entry)) (now (requests .entry))) ⌝ }
+fn put_file(room: &mut [u8], shape: Shape, centres: &[u64], states: &[u64], requests: &[u64])
+    requires { ⌜ Fits shape (runsOf (now centres) (now states) (now requests)) (length (now room)) ⌝ }
+    ensures { λ _. ⌜ now (room .exit)
+        ≡ put (now (room .entry)) 0 (asBytes (wordsBy shape (runsOf (now (centres .entry)) (now (states .entry)) (now (requests .entry))))) ⌝ }
 {
-    let c = records(Section::Centres, centres.len()) as u16;
-    let s = records(Section::States, states.len()) as u16;
-    put_word(room, 0, ELEMENT_EDITION);
-    put_section(room, CENTRES_PLACE, Section::Centres, centres);
-    put_section(room, states_place(c), Section::States, states);
-    put_section(room, requests_place(c, s), Section::Requests, requests);
+    let edition = shape.edition;
+    put_word(room, 0, edition_word(edition));
+    put_section(room, shape, Section::Centres, centres);
+    put_section(room, shape, Section::States, states);
+    put_section(room, shape, Section::Requests, requests);
 }
 
 // The three sections written as an element file at the start of a room: its length, or the first refusal, and then nothing is written.
-pub fn write_file(centres: &[u64], states: &[u64], requests: &[u64], room: &mut [u8]) -> Writing
-    ensures answer { λ r. ⌜ r ≡ writingOf (now (centres .entry)) (now (states .entry)) (now (requests .entry)) (now (room .entry)) ⌝ }
-    ensures room { λ _. ⌜ now (room .exit) ≡ roomOf (now (centres .entry)) (now (states .entry)) (now (requests .entry)) (now (room .entry)) ⌝ }
+pub fn write_file(
+    edition: Edition,
+    centres: &[u64],
+    states: &[u64],
+    requests: &[u64],
+    room: &mut [u8],
+) -> Writing
+    ensures answer { λ r. ⌜ r ≡ writingOf edition (runsOf (now (centres .entry)) (now (states .entry)) (now (requests .entry))) (now (room .entry)) ⌝ }
+    ensures room { λ _. ⌜ now (room .exit) ≡ roomOf edition (runsOf (now (centres .entry)) (now (states .entry)) (now (requests .entry))) (now (room .entry)) ⌝ }
 {
-    let verdict = judge(centres, states, requests, room.len());
-    match verdict {
-        Check::Fault { number, place } => Writing::Refused { number, place },
-        Check::Sound => {
-            put_file(room, centres, states, requests);
-            Writing::Length(file_size(centres.len(), states.len(), requests.len()))
+    match judge(edition, centres, states, requests, room.len()) {
+        Reading::Refused { number, place } => Writing::Refused { number, place },
+        Reading::Sections(shape) => {
+            put_file(room, shape, centres, states, requests);
+            Writing::Length(shape.end())
         }
     }
 }

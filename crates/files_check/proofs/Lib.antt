@@ -1,6 +1,6 @@
 -- The laws of a file of rows, those of our own rows, and what the public function leaves open.
 pub mod Sound
-pub mod Verdicts
+pub mod EachLaws
 pub mod RowsLaws
 pub mod OurRows
 pub mod OneAnswers

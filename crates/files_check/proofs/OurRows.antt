@@ -38,7 +38,7 @@ use Rattle.states_check.specs.RowPromise.{anomalyIn, nineIn}
 use Rattle.states_check.proofs.RowLaws.{accepts-own, accepts-exactly}
 use Rattle.files_words.specs.Bytes.{Below}
 use Rattle.files_words.proofs.WordLaws.{below-append}
-use Rattle.files_sections.specs.Records.{All}
+use Rattle.files_records.specs.Records.{AllOf}
 use Rattle.files_check.specs.RowsPromise.{Row, IsRow, AreRows, verdictOn, OurRowIs, Ours, OurFilesPass}
 use Rattle.files_check.proofs.RowsLaws.{our-rows-pass, judges-rows}
 
@@ -149,11 +149,11 @@ our-row-is pr given h =
     }
 
 -- ---- A file of them.
-are-rows : (rows : List Row) → All Ours rows → AreRows rows
+are-rows : (rows : List Row) → AllOf Ours rows → AreRows rows
 are-rows [] h = tt
 are-rows (r ∷ rows) h = let o = h .0 in (subst IsRow (sym (o .same)) (our-row-is (o .by) (o .input) (o .answered)), are-rows rows (h .1))
 
-all-ones : (rows : List Row) → All Ours rows → map verdictOn rows ≡ replicate (length rows) 1
+all-ones : (rows : List Row) → AllOf Ours rows → map verdictOn rows ≡ replicate (length rows) 1
 all-ones [] h = refl
 all-ones (r ∷ rows) h =
     let o = h .0 in

@@ -8,19 +8,20 @@ use native.Mathlib.Omega.{arith}
 use lib.Dec.{leb}
 use lib.ListN.{length}
 use Rattle.bits.specs.Choice.{pick}
-use Rattle.files_sections.specs.declared.checks.Check.{Check}
-use Rattle.files_sections.specs.declared.checks.Check.the-variants.{Sound, Fault}
-use Rattle.files_sections.proofs.CountedLaws.{filled-sound}
-use Rattle.files_check.specs.RowsFile.{mostRows, rowWords, countPlace, rowsIn, rowsCheck, judgedBy, judgedOf, withVerdicts, verdictsBy, verdictsAfter}
+use Rattle.files_checks.specs.declared.Check.{Check}
+use Rattle.files_checks.specs.declared.Check.the-variants.{Sound, Fault}
+use Rattle.files_checks.proofs.CountedLaws.{filled-sound}
+use Rattle.files_formats.specs.Rows.{checkedCountPlace, checkedWidth, mostChecked}
+use Rattle.files_check.specs.RowsFile.{rowsIn, rowsCheck, judgedBy, judgedOf, withVerdicts, verdictsBy, verdictsAfter}
 use Rattle.files_check.specs.RowsPromise.{SoundSo, KeptOrJudged}
 
 pub sound-so : SoundSo
 unfolding rowsCheck
 sound-so file e =
-    let filled = filled-sound file countPlace mostRows rowWords e in
-    record { few = filled .0; size = omega (arith, filled .1) }
+    let filled = filled-sound file checkedCountPlace mostChecked checkedWidth e in
+    record { few = omega (arith, filled .0); size = omega (arith, filled .1) }
 
-pub few-rows : (file : List ℕ) → rowsCheck file ≡ Sound → rowsIn file ≤ mostRows
+pub few-rows : (file : List ℕ) → rowsCheck file ≡ Sound → rowsIn file ≤ mostChecked
 few-rows file e = sound-so file e .few
 
 -- A refused file, or one whose verdicts have no room, leaves the run as it was.

@@ -22,8 +22,8 @@ use Rattle.states_start.specs.Initial.{dot, begunOf, firstStepOf}
 use Rattle.states.specs.Call.{reachedFound, reachedOverBy, reachedFromBy, reachedOrbitBy, reachedWordsBy}
 use Rattle.states_check.specs.Row.{acceptsAt, accepts}
 use Rattle.files_words.specs.Bytes.{numberOf, bytesOf, asBytes, words, wordsFrom, wordAt}
-use Rattle.files_sections.specs.Checks.{walk, countCheck, countedCheck, filledCheck}
-use Rattle.files_check.specs.RowsFile.{rowsCheck, fieldsAt, verdictOf, verdictsOf, judgedOf, verdictsAfter}
+use Rattle.files_checks.specs.Checks.{walk, countCheck, countedCheck, filledCheck}
+use Rattle.files_check.specs.RowsFile.{rowsCheck, eachOf, verdictOf, judgedOf, verdictsAfter}
 use Rattle.files_check.specs.declared.Judged.{Judged}
 
 -- ---- Rows.
@@ -126,7 +126,7 @@ after (c ∷ cs) = c .verdict ∷ after cs
 -- Each row of the table, in one file, has its verdict.
 pub marked : verdictsAfter (asBytes (length table ∷ rowsOf table)) (before table) ≡ after table
 unfolding
-    verdictsAfter rowsCheck filledCheck countedCheck countCheck walk words wordsFrom wordAt numberOf bytesOf asBytes verdictsOf verdictOf fieldsAt
+    verdictsAfter rowsCheck filledCheck countedCheck countCheck walk words wordsFrom wordAt numberOf bytesOf asBytes eachOf verdictOf
     accepts acceptsAt reachedWordsBy reachedOrbitBy reachedFromBy reachedOverBy reachedFound intervalOf withoutRevolutions withoutN asItIs floorOf
     courseOf isClosed isUsable revolutionOf ofInt readOf begunOf dot firstStepOf endedOf figuresOf resultsOf accelerationOf arcOf endStateOf factorsOf
     has firstOf sameWords isRight isRightBeyondZero hasSignOf passes shortPasses pastPasses picks nearerEnd trialAt evaluatedAt sortOf anomalyAt

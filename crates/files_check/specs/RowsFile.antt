@@ -5,59 +5,50 @@ use lib.Dec.{leb}
 use lib.ListN.{length, drop}
 use Rattle.bits.specs.Choice.{pick}
 use Rattle.files_words.specs.Bytes.{wordAt}
-use Rattle.files_sections.specs.declared.checks.Check.{Check}
-use Rattle.files_sections.specs.declared.checks.Check.the-variants.{Sound, Fault}
-use Rattle.files_sections.specs.Checks.{filledCheck}
+use Rattle.files_checks.specs.declared.Check.{Check}
+use Rattle.files_checks.specs.declared.Check.the-variants.{Sound, Fault}
+use Rattle.files_checks.specs.Checks.{filledCheck}
+use Rattle.files_formats.specs.Rows.{checkedCountPlace, checkedWidth, mostChecked, checkedPlace, givenWords, checkedAnomaly, checkedFigure, checkedFigures}
 use Rattle.states_check.specs.Row.{accepts}
 use Rattle.files_check.specs.declared.Judged.{Judged}
 
--- ---- "18 words each after a count of 0 to 400".
-abbrev pub mostRows : ℕ
-mostRows = 400
-
-abbrev pub rowWords : ℕ
-rowWords = 18
-
-abbrev pub countPlace : ℕ
-countPlace = 0
-
--- Where row k stands; a file of k rows ends there.
-abbrev pub rowPlace : ℕ → ℕ
-rowPlace k = countPlace + 8 + 8 * (k * rowWords)
-
+-- ---- "18 words each after a count of 0 to 400": how many rows a file counts. "21, 23, 25 as for element files": the count, that many rows, whose words may
+-- hold any bits, and the end.
 abbrev pub rowsIn : List ℕ → ℕ
-rowsIn file = wordAt file countPlace
+rowsIn file = wordAt file checkedCountPlace
 
--- "21, 23, 25 as for element files": the count, that many rows, whose words may hold any bits, and the end.
 unfoldable pub rowsCheck : List ℕ → Check
 unfolding filledCheck
-rowsCheck file = filledCheck file countPlace mostRows rowWords
+rowsCheck file = filledCheck file checkedCountPlace mostChecked checkedWidth
 
--- ---- "eight input words, a proposed anomaly and the nine end figures": `count` words of the record at a place, starting at word `from`.
-unfoldable pub fieldsAt : List ℕ → (place from count : ℕ) → List ℕ
-fieldsAt file place from zero = []
-fieldsAt file place from (suc n) = wordAt file (place + 8 * from) ∷ fieldsAt file place (suc from) n
+-- ---- What there is of each of the first n: of the words from a place on, and of the rows.
+unfoldable pub eachOf : (of : ℕ → ℕ) (n : ℕ) → List ℕ
+eachOf of zero = []
+eachOf of (suc n) = eachOf of n ++ (of n ∷ [])
+
+-- "eight input words, a proposed anomaly and the nine end figures": so many words from a place on; and those of the row that stands at a place.
+abbrev pub fieldsAt : List ℕ → (place n : ℕ) → List ℕ
+fieldsAt file place n = eachOf (λ j. wordAt file (place + 8 * j)) n
 
 abbrev pub givenAt : List ℕ → (place : ℕ) → List ℕ
-givenAt file place = fieldsAt file place 0 8
+givenAt file place = fieldsAt file place givenWords
 
 abbrev pub proposedAt : List ℕ → (place : ℕ) → ℕ
-proposedAt file place = wordAt file (place + 8 * 8)
+proposedAt file place = wordAt file (place + 8 * checkedAnomaly)
 
 abbrev pub nineAt : List ℕ → (place : ℕ) → List ℕ
-nineAt file place = fieldsAt file place 9 9
+nineAt file place = fieldsAt file (place + 8 * checkedFigure) checkedFigures
 
 -- "a verdict per row": 1 is yes, 0 is no.
 unfoldable pub verdictOf : (given : List ℕ) (anomaly : ℕ) (nine : List ℕ) → ℕ
 verdictOf given anomaly nine = pick (accepts given anomaly nine) 1 0
 
 abbrev pub verdictAt : List ℕ → (k : ℕ) → ℕ
-verdictAt file k = verdictOf (givenAt file (rowPlace k)) (proposedAt file (rowPlace k)) (nineAt file (rowPlace k))
+verdictAt file k = let place = checkedPlace k in verdictOf (givenAt file place) (proposedAt file place) (nineAt file place)
 
 -- The verdicts of the first n rows.
-unfoldable pub verdictsOf : List ℕ → (n : ℕ) → List ℕ
-verdictsOf file zero = []
-verdictsOf file (suc n) = verdictsOf file n ++ (verdictAt file n ∷ [])
+abbrev pub verdictsOf : List ℕ → (n : ℕ) → List ℕ
+verdictsOf file n = eachOf (verdictAt file) n
 
 -- ---- What is answered: a refusal with its place, or the rows; 26 where the lent run is too short, "after the others", with the rows.
 abbrev pub judgedBy : Check → (rows room : ℕ) → Judged

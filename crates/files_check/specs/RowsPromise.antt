@@ -11,8 +11,8 @@ use Rattle.states_revolutions.specs.Revolutions.{intervalOf}
 use Rattle.states.specs.Call.{propagateBy}
 use Rattle.states_check.specs.RowPromise.{anomalyIn, nineIn}
 use Rattle.files_words.specs.Bytes.{asBytes, Below}
-use Rattle.files_sections.specs.declared.checks.Check.the-variants.{Sound}
-use Rattle.files_sections.specs.Records.{All, allWords}
+use Rattle.files_checks.specs.declared.Check.the-variants.{Sound}
+use Rattle.files_records.specs.Records.{AllOf, allWords}
 use Rattle.files_check.specs.RowsFile.{rowsIn, rowsCheck, verdictOf, judgedOf, verdictsAfter}
 
 -- "rows with eight input words, a proposed anomaly and the nine end figures".
@@ -30,7 +30,7 @@ pub record IsRow (r : Row) : Type 0 where
   pub are-words : Below (2 ^ 64) (wordsIn r)
 
 abbrev pub AreRows : List Row → Type 0
-AreRows rows = All IsRow rows
+AreRows rows = AllOf IsRow rows
 
 -- "Rows come 18 words each after a count": the bytes of a file of these rows.
 abbrev pub fileOf : List Row → List ℕ
@@ -87,4 +87,4 @@ pub record AllPass (rows : List Row) (run : List ℕ) : Type 0 where
   pub verdicts : verdictsAfter (fileOf rows) run ≡ replicate (length rows) 1 ++ drop (length rows) run
 
 abbrev pub OurFilesPass : Type 0
-OurFilesPass = (rows : List Row) → All Ours rows → length rows ≤ 400 → (run : List ℕ) → length rows ≤ length run → AllPass rows run
+OurFilesPass = (rows : List Row) → AllOf Ours rows → length rows ≤ 400 → (run : List ℕ) → length rows ≤ length run → AllPass rows run

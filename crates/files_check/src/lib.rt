@@ -1,14 +1,11 @@
 // Layer 5: a file of another station's rows, and a verdict for each (document 02, T-06).
 ghost use mathlib.Core.Path.{_≡_};
-ghost use Prim.Native.Nat.{_+_, _*_, _≤_, _<_};
+ghost use Prim.Native.Nat.{suc, _≤_, _<_};
 ghost use lib.ListN.{length};
-ghost use Rattle.files_words.specs.Bytes.{wordAt};
+ghost use Rattle.files_formats.specs.Rows.{checkedWidth, mostChecked, checkedPlace};
 ghost use Rattle.files_check.specs.RowsFile.{
-  mostRows,
-  rowPlace,
   rowsCheck,
-  givenAt,
-  nineAt,
+  fieldsAt,
   verdictOf,
   verdictAt,
   judgedBy,
@@ -17,16 +14,16 @@ ghost use Rattle.files_check.specs.RowsFile.{
   verdictsBy,
   verdictsAfter,
 };
-use files_sections::Check;
-use files_sections::check_filled;
+use files_checks::Check;
+use files_checks::check_filled;
+use files_formats::rows::CHECKED_ANOMALY;
+use files_formats::rows::CHECKED_COUNT_PLACE;
+use files_formats::rows::CHECKED_FIGURE;
+use files_formats::rows::CHECKED_FIGURES;
+use files_formats::rows::CHECKED_WIDTH;
+use files_formats::rows::GIVEN_WORDS;
+use files_formats::rows::MOST_CHECKED;
 use files_words::word_at;
-
-// The most rows that a file may have, and the words of a row.
-pub const MOST_ROWS: u16 = 400;
-
-pub const ROW_WORDS: u16 = 18;
-// The place of the count: a file's first word.
-pub const COUNT_PLACE: usize = 0;
 
 // What a file of rows is answered with: a refusal's number or 0, and the place of the refusal or the rows.
 pub struct Judged {
@@ -34,62 +31,30 @@ pub struct Judged {
     pub place_or_rows: usize,
 }
 
-// Where row k stands.
-fn row_place(k: usize) -> usize
-    requires { ⌜ k ≤ mostRows ⌝ }
-    ensures { λ r. ⌜ r ≡ rowPlace k ⌝ }
-{
-    COUNT_PLACE + 8 + 8 * (k * ROW_WORDS as usize)
-}
-
 // The count, that many whole rows, and nothing behind them.
 fn check_rows(file: &[u8]) -> Check
     ensures { λ r. ⌜ r ≡ rowsCheck (now (file .entry)) ⌝ }
 {
-    check_filled(file, COUNT_PLACE, MOST_ROWS, ROW_WORDS)
+    check_filled(
+        file,
+        CHECKED_COUNT_PLACE,
+        MOST_CHECKED,
+        CHECKED_WIDTH as u16,
+    )
 }
 
-// Word n of the row at a place.
-fn field(file: &[u8], place: usize, n: usize) -> u64
-    requires { ⌜ (place ≤ rowPlace mostRows) × (n < 18) ⌝ }
-    ensures { λ r. ⌜ r ≡ wordAt (now (file .entry)) (place + 8 * n) ⌝ }
+// The words of a row from a place on, as many as the run has.
+fn read_fields(file: &[u8], place: usize, words: &mut [u64])
+    requires { ⌜ (place < checkedPlace (suc mostChecked)) × (length (now words) ≤ checkedWidth) ⌝ }
+    ensures { λ _. ⌜ now (words .exit) ≡ fieldsAt (now (file .entry)) place (length (now (words .entry))) ⌝ }
 {
-    word_at(file, place + 8 * n)
-}
-
-// Its eight input words.
-fn given_at(file: &[u8], place: usize) -> [u64; 8]
-    requires { ⌜ place ≤ rowPlace mostRows ⌝ }
-    ensures { λ r. ⌜ r ≡ givenAt (now (file .entry)) place ⌝ }
-{
-    [
-        field(file, place, 0),
-        field(file, place, 1),
-        field(file, place, 2),
-        field(file, place, 3),
-        field(file, place, 4),
-        field(file, place, 5),
-        field(file, place, 6),
-        field(file, place, 7),
-    ]
-}
-
-// Its nine end figures, behind the anomaly.
-fn nine_at(file: &[u8], place: usize) -> [u64; 9]
-    requires { ⌜ place ≤ rowPlace mostRows ⌝ }
-    ensures { λ r. ⌜ r ≡ nineAt (now (file .entry)) place ⌝ }
-{
-    [
-        field(file, place, 9),
-        field(file, place, 10),
-        field(file, place, 11),
-        field(file, place, 12),
-        field(file, place, 13),
-        field(file, place, 14),
-        field(file, place, 15),
-        field(file, place, 16),
-        field(file, place, 17),
-    ]
+    let n = words.len();
+    let mut rest = n;
+    while 0 < rest {
+        let j = n - rest;
+        words[j] = word_at(file, place + 8 * j);
+        rest -= 1;
+    }
 }
 
 // The verdict on a row: 1 accepted, 0 not.
@@ -104,20 +69,20 @@ fn verdict_of(given: [u64; 8], anomaly: u64, nine: [u64; 9]) -> u64
 
 // The verdict on row k.
 fn verdict_at(file: &[u8], k: usize) -> u64
-    requires { ⌜ k ≤ mostRows ⌝ }
+    requires { ⌜ k ≤ mostChecked ⌝ }
     ensures { λ r. ⌜ r ≡ verdictAt (now (file .entry)) k ⌝ }
 {
-    let place = row_place(k);
-    verdict_of(
-        given_at(file, place),
-        field(file, place, 8),
-        nine_at(file, place),
-    )
+    let place = CHECKED_COUNT_PLACE + 8 + 8 * (k * CHECKED_WIDTH);
+    let mut given = [0; GIVEN_WORDS];
+    read_fields(file, place, &mut given);
+    let mut nine = [0; CHECKED_FIGURES];
+    read_fields(file, place + 8 * CHECKED_FIGURE, &mut nine);
+    verdict_of(given, word_at(file, place + 8 * CHECKED_ANOMALY), nine)
 }
 
 // The verdicts on so many rows, one after another, to the front of a run.
 fn put_verdicts(file: &[u8], rows: usize, verdicts: &mut [u64])
-    requires { ⌜ (rows ≤ mostRows) × (rows ≤ length (now verdicts)) ⌝ }
+    requires { ⌜ (rows ≤ mostChecked) × (rows ≤ length (now verdicts)) ⌝ }
     ensures { λ _. ⌜ now (verdicts .exit) ≡ withVerdicts (now (file .entry)) rows (now (verdicts .entry)) ⌝ }
 {
     let mut left = rows;
@@ -130,7 +95,7 @@ fn put_verdicts(file: &[u8], rows: usize, verdicts: &mut [u64])
 
 // The rows of a sound file: 26 where the run is too short for their verdicts, else the verdicts.
 fn judge_rows(file: &[u8], rows: usize, verdicts: &mut [u64]) -> Judged
-    requires { ⌜ rows ≤ mostRows ⌝ }
+    requires { ⌜ rows ≤ mostChecked ⌝ }
     ensures judged { λ r. ⌜ r ≡ judgedBy Check.Sound rows (length (now (verdicts .entry))) ⌝ }
     ensures verdicts { λ _. ⌜ now (verdicts .exit) ≡ verdictsBy Check.Sound (now (file .entry)) rows (now (verdicts .entry)) ⌝ }
 {
@@ -153,7 +118,7 @@ pub fn judge(file: &[u8], verdicts: &mut [u64]) -> Judged
     ensures verdicts { λ _. ⌜ now (verdicts .exit) ≡ verdictsAfter (now (file .entry)) (now (verdicts .entry)) ⌝ }
 {
     match check_rows(file) {
-        Check::Sound => judge_rows(file, word_at(file, COUNT_PLACE) as usize, verdicts),
+        Check::Sound => judge_rows(file, word_at(file, CHECKED_COUNT_PLACE) as usize, verdicts),
         Check::Fault { number, place } => Judged {
             number,
             place_or_rows: place,

@@ -1,6 +1,6 @@
 -- A file beside itself, and two files either way round.
 use Prim.Native.Nat.{ℕ, zero, suc, _+_}
-use mathlib.Core.Path.{_≡_, refl, sym, ap, ap₂, _∙_}
+use mathlib.Core.Path.{_≡_, refl, sym, ap, _∙_}
 use mathlib.Core.Bool.{Bool, true, false, _&&_}
 use mathlib.Core.Logic.{_⊎_, inl, inr}
 use mathlib.Core.List.{List}
@@ -10,28 +10,25 @@ use lib.Dec.{eqb}
 use lib.Ieee.{binary64, ofBits}
 use Rattle.bits.specs.Choice.{pick}
 use Rattle.bits.specs.Arithmetic.{isFinite}
-use Rattle.files_sections.specs.ResultLayout.{rowRefusal, rowFigures, figuresOfRow}
-use Rattle.files_told.specs.declared.told.RowKind.{RowKind}
-use Rattle.files_told.specs.declared.told.RowKind.the-variants as kind
-use Rattle.files_told.specs.declared.told.Figure.the-variants as figure
-use Rattle.files_told.specs.declared.told.Largest.{Largest}
-use Rattle.files_told.specs.Distance.{distanceOf}
-use Rattle.files_told.specs.Told.{rowKindOf, bothFinite, figureOf, figureIn, largestWith}
-use Rattle.files_compare.specs.Compare.{wordIn, rowAt, kindAt, figureAt, largestInRow, largestOf}
+use Rattle.files_formats.specs.Rows.{resultRefusal, resultFigure, resultFigures}
+use Rattle.files_differences.specs.declared.told.RowKind.{RowKind}
+use Rattle.files_differences.specs.declared.told.RowKind.the-variants as kind
+use Rattle.files_differences.specs.declared.told.Figure.the-variants as figure
+use Rattle.files_differences.specs.declared.told.Largest.{Largest}
+use Rattle.files_differences.specs.Distance.{distanceOf}
+use Rattle.files_differences.specs.Told.{rowKindOf, bothFinite, figureOf, figureIn, largestWith}
+use Rattle.files_compare.specs.Compare.{wordOn, rowAt, rowKindAt, figureAt, largestInRow, largestOf}
 use Rattle.files_compare.specs.ComparePromise.{Unmoved, NothingMoved, exchanged, SidesExchanged}
-use Rattle.files_told.proofs.DistanceLaws.{symmetric}
+use Rattle.files_differences.proofs.DistanceLaws.{symmetric}
+use Rattle.files_differences.proofs.ToldLaws.{rows-so}
 
 -- ---- A file beside itself.
-abbrev answer : (b c : Bool) → RowKind
-answer b c = pick b (pick b kind.Answered kind.RightRefused) (pick b kind.LeftRefused (pick c kind.RefusedAlike kind.RefusedUnlike))
-
 same-rows : (w : ℕ) → (rowKindOf w w ≡ kind.Answered) ⊎ (rowKindOf w w ≡ kind.RefusedAlike)
-unfolding rowKindOf
 same-rows w = by (eqb w 0) refl
   where
-    by : (b : Bool) → eqb w 0 ≡ b → (answer (eqb w 0) (eqb w w) ≡ kind.Answered) ⊎ (answer (eqb w 0) (eqb w w) ≡ kind.RefusedAlike)
-    by true e = inl (ap (λ (b : Bool). answer b (eqb w w)) e)
-    by false e = inr (ap₂ answer e (eq-eqb w w refl))
+    by : (b : Bool) → eqb w 0 ≡ b → (rowKindOf w w ≡ kind.Answered) ⊎ (rowKindOf w w ≡ kind.RefusedAlike)
+    by true e = inl (rows-so w w .answered (eqb-true w 0 e) (eqb-true w 0 e))
+    by false e = inr (rows-so w w .alike (eqb-false w 0 e) (eqb-false w 0 e) refl)
 
 same-figure : (w : ℕ) → Unmoved (figureOf w w)
 unfolding figureOf
@@ -53,8 +50,8 @@ in-same kind.RefusedUnlike w = inr (inr refl)
 
 pub nothing-moved : NothingMoved
 nothing-moved file k n = record {
-  same-rows = same-rows (wordIn (rowAt file k) rowRefusal);
-  same-figure = in-same (kindAt file file k) (wordIn (rowAt file k) (rowFigures + n));
+  same-rows = same-rows (wordOn (rowAt file k) resultRefusal);
+  same-figure = in-same (rowKindAt file file k) (wordOn (rowAt file k) (resultFigure + n));
 }
 
 -- ---- Two files either way round.
@@ -101,22 +98,22 @@ in-exchanged kind.RefusedUnlike v w = refl
 module _ (left right : List ℕ) where
   figures : (k n : ℕ) → figureAt right left k n ≡ figureAt left right k n
   figures k n =
-      ap (λ (r : RowKind). figureIn r (wordIn (rowAt right k) (rowFigures + n)) (wordIn (rowAt left k) (rowFigures + n))) (rows-exchanged (wordIn (rowAt left k) rowRefusal) (wordIn (rowAt right k) rowRefusal))
-      ∙ in-exchanged (kindAt left right k) (wordIn (rowAt left k) (rowFigures + n)) (wordIn (rowAt right k) (rowFigures + n))
+      ap (λ (r : RowKind). figureIn r (wordOn (rowAt right k) (resultFigure + n)) (wordOn (rowAt left k) (resultFigure + n))) (rows-exchanged (wordOn (rowAt left k) resultRefusal) (wordOn (rowAt right k) resultRefusal))
+      ∙ in-exchanged (rowKindAt left right k) (wordOn (rowAt left k) (resultFigure + n)) (wordOn (rowAt right k) (resultFigure + n))
 
   in-row : (k n : ℕ) (l : Largest) → largestInRow (rowAt right k) (rowAt left k) l k n ≡ largestInRow (rowAt left k) (rowAt right k) l k n
   unfolding largestInRow
   in-row k zero l = refl
-  in-row k (suc n) l = λ i. largestWith (in-row k n l i) k (rowFigures + n) (figures k n i)
+  in-row k (suc n) l = λ i. largestWith (in-row k n l i) k (resultFigure + n) (figures k n i)
 
   largest : (n : ℕ) → largestOf right left n ≡ largestOf left right n
   unfolding largestOf
   largest zero = refl
-  largest (suc n) = ap (λ (l : Largest). largestInRow (rowAt right n) (rowAt left n) l n figuresOfRow) (largest n) ∙ in-row n figuresOfRow (largestOf left right n)
+  largest (suc n) = ap (λ (l : Largest). largestInRow (rowAt right n) (rowAt left n) l n resultFigures) (largest n) ∙ in-row n resultFigures (largestOf left right n)
 
 pub sides-exchanged : SidesExchanged
 sides-exchanged left right = record {
-  its-kinds = λ k. rows-exchanged (wordIn (rowAt left k) rowRefusal) (wordIn (rowAt right k) rowRefusal);
+  its-kinds = λ k. rows-exchanged (wordOn (rowAt left k) resultRefusal) (wordOn (rowAt right k) resultRefusal);
   its-figures = figures left right;
   its-largest = largest left right;
 }

@@ -4,27 +4,28 @@ use mathlib.Core.Path.{_≡_, refl, ap}
 use mathlib.Core.Bool.{Bool}
 use mathlib.Core.List.{List, _++_}
 use native.Mathlib.Omega.{arith}
-use borrow.Author.Tests.{le-leb, lt-leb, eq-eqb, ne-eqb}
+use borrow.Author.Tests.{le-leb, lt-leb, eq-eqb, ne-eqb, eqb-true}
 use lib.Dec.{eqb, leb}
 use lib.ListN.{drop}
-use Rattle.files_sections.specs.declared.checks.Check.{Check}
-use Rattle.files_sections.specs.Checks.{need, editionCheck}
-use Rattle.files_sections.specs.ResultLayout.{resultEdition, rowWords, countPlace}
-use Rattle.files_sections.proofs.CheckLaws.{both}
-use Rattle.files_sections.proofs.CountedLaws.{filled-sound, edition-is}
-use Rattle.files_told.specs.declared.told.Side.the-variants as side
-use Rattle.files_told.specs.declared.told.Comparison.{Comparison}
-use Rattle.files_told.specs.declared.told.Comparison.the-variants as comparison
-use Rattle.files_compare.specs.Compare.{mostRows, resultsCheck, rowCount, rowsTold, largestOf, wordsNeeded, unlessRefused, comparisonOf, unlessCompared, runAfter}
+use Rattle.files_words.specs.Bytes.{wordAt}
+use Rattle.files_checks.specs.declared.Check.{Check}
+use Rattle.files_checks.specs.Checks.{need, editionCheck}
+use Rattle.files_formats.specs.Rows.{resultEdition, resultCountPlace, resultWidth, mostResults}
+use Rattle.files_checks.proofs.CheckLaws.{both}
+use Rattle.files_checks.proofs.CountedLaws.{filled-sound, edition-is}
+use Rattle.files_differences.specs.declared.told.Side.the-variants as side
+use Rattle.files_differences.specs.declared.told.Comparison.{Comparison}
+use Rattle.files_differences.specs.declared.told.Comparison.the-variants as comparison
+use Rattle.files_compare.specs.Compare.{editionKnown, resultsCheck, rowCount, rowsTold, largestOf, wordsNeeded, unlessFault, comparisonOf, unlessCompared, runAfter}
 use Rattle.files_compare.specs.ComparePromise.{SoundSo, RefusesInOrder, KeepsOrTells}
 
 pub sound-so : SoundSo
 unfolding resultsCheck
 sound-so file e =
-    let b = both (editionCheck file resultEdition) _ e in
-    let filled = filled-sound file countPlace mostRows rowWords (b .1) in
+    let b = both (editionCheck file (editionKnown file)) _ e in
+    let filled = filled-sound file resultCountPlace mostResults resultWidth (b .1) in
     record {
-      edition = edition-is file resultEdition (b .0) .1;
+      edition = eqb-true (wordAt file 0) resultEdition (edition-is file (editionKnown file) (b .0) .1);
       few = filled .0;
       size = omega (arith, filled .1);
     }
@@ -36,10 +37,10 @@ module _ (left right : List ℕ) (room : ℕ) where
   -- The answer, by what each test came to.
   abbrev by-tests : Check → Check → (same enough : Bool) → Comparison
   by-tests l r same enough =
-      unlessRefused side.Left l
-      (unlessRefused side.Right r
-      (unlessRefused side.Neither (need same 51 0)
-      (unlessRefused side.Neither (need enough 26 (wordsNeeded left))
+      unlessFault side.Left l
+      (unlessFault side.Right r
+      (unlessFault side.Neither (need same 51 0)
+      (unlessFault side.Neither (need enough 26 (wordsNeeded left))
       (comparison.Compared count (largestOf left right count)))))
 
   by : {l r : Check} {same enough : Bool} → resultsCheck left ≡ l → resultsCheck right ≡ r → eqb count (rowCount right) ≡ same → leb (wordsNeeded left) room ≡ enough → comparisonOf left right room ≡ by-tests l r same enough

@@ -6,20 +6,20 @@ use mathlib.Core.List.{List, [], _∷_, _++_}
 use Prim.Native.Nat.{ℕ, suc, _+_, _*_, _/_, _≤_, _<_, _^_}
 use lib.ListN.{length, drop, getD}
 use Rattle.files_words.specs.Bytes.{wordAt, asBytes, Below}
-use Rattle.files_sections.specs.declared.checks.Check.the-variants.{Sound, Fault}
-use Rattle.files_sections.specs.Records.{All, allWords}
-use Rattle.files_sections.specs.ResultLayout.{resultEdition, rowFigures, figuresOfRow}
-use Rattle.files_told.specs.declared.told.RowKind.{RowKind}
-use Rattle.files_told.specs.declared.told.RowKind.the-variants as kind
-use Rattle.files_told.specs.declared.told.Figure.{Figure}
-use Rattle.files_told.specs.declared.told.Figure.the-variants as figure
-use Rattle.files_told.specs.declared.told.Largest.{Largest}
-use Rattle.files_told.specs.declared.told.Largest.the-variants as largest
-use Rattle.files_told.specs.declared.told.Side.{Side}
-use Rattle.files_told.specs.declared.told.Side.the-variants as side
-use Rattle.files_told.specs.declared.told.Comparison.the-variants as comparison
-use Rattle.files_told.specs.Told.{rowKindOf, rowKindWord, figureIn, figureWords}
-use Rattle.files_compare.specs.Compare.{resultsCheck, rowCount, kindAt, figureAt, rowsTold, largestOf, wordsNeeded, comparisonOf, runAfter}
+use Rattle.files_checks.specs.declared.Check.the-variants.{Sound, Fault}
+use Rattle.files_records.specs.Records.{AllOf, allWords}
+use Rattle.files_formats.specs.Rows.{resultEdition, resultFigure, resultFigures}
+use Rattle.files_differences.specs.declared.told.RowKind.{RowKind}
+use Rattle.files_differences.specs.declared.told.RowKind.the-variants as kind
+use Rattle.files_differences.specs.declared.told.Figure.{Figure}
+use Rattle.files_differences.specs.declared.told.Figure.the-variants as figure
+use Rattle.files_differences.specs.declared.told.Largest.{Largest}
+use Rattle.files_differences.specs.declared.told.Largest.the-variants as largest
+use Rattle.files_differences.specs.declared.told.Side.{Side}
+use Rattle.files_differences.specs.declared.told.Side.the-variants as side
+use Rattle.files_differences.specs.declared.told.Comparison.the-variants as comparison
+use Rattle.files_differences.specs.Told.{rowKindOf, rowKindWord, figureIn, figureWords}
+use Rattle.files_compare.specs.Compare.{resultsCheck, rowCount, rowKindAt, figureAt, rowsTold, largestOf, wordsNeeded, comparisonOf, runAfter}
 
 -- ---- A file that is not refused: its edition is 1, it has at most 1,500 rows, and no byte more or less than they take.
 pub record SoundFile (file : List ℕ) : Type 0 where
@@ -83,15 +83,15 @@ module _ (left right : List ℕ) where
   -- exceeds it, and those before it are smaller.
   pub record IsFirst (row n k j d : ℕ) : Type 0 where
     pub there : Earlier k j row n
-    pub a-figure : j < figuresOfRow
+    pub a-figure : j < resultFigures
     pub is-its : figureAt left right k j ≡ figure.Distance d
-    pub none-larger : (r i e : ℕ) → i < figuresOfRow → Earlier r i row n → figureAt left right r i ≡ figure.Distance e → e ≤ d
-    pub all-smaller : (r i e : ℕ) → i < figuresOfRow → Earlier r i k j → figureAt left right r i ≡ figure.Distance e → e < d
+    pub none-larger : (r i e : ℕ) → i < resultFigures → Earlier r i row n → figureAt left right r i ≡ figure.Distance e → e ≤ d
+    pub all-smaller : (r i e : ℕ) → i < resultFigures → Earlier r i k j → figureAt left right r i ≡ figure.Distance e → e < d
 
   -- Nowhere: none of them has a distance.
   abbrev pub FirstLargest : (row n : ℕ) → Largest → Type 0
-  FirstLargest row n largest.Nowhere = (r i e : ℕ) → i < figuresOfRow → Earlier r i row n → figureAt left right r i ≡ figure.Distance e → ⊥
-  FirstLargest row n (largest.At k word d) = (j : ℕ) × ((word ≡ rowFigures + j) × IsFirst row n k j d)
+  FirstLargest row n largest.Nowhere = (r i e : ℕ) → i < resultFigures → Earlier r i row n → figureAt left right r i ≡ figure.Distance e → ⊥
+  FirstLargest row n (largest.At k word d) = (j : ℕ) × ((word ≡ resultFigure + j) × IsFirst row n k j d)
 
 -- For all rows: the figures before figure 0 of the row behind the last.
 abbrev pub LargestIsFirst : Type 0
@@ -102,7 +102,7 @@ abbrev pub Unmoved : Figure → Type 0
 Unmoved f = (f ≡ figure.Distance 0) ⊎ ((f ≡ figure.EqualBits) ⊎ (f ≡ figure.Untold))
 
 pub record AsItself (file : List ℕ) (k j : ℕ) : Type 0 where
-  pub same-rows : (kindAt file file k ≡ kind.Answered) ⊎ (kindAt file file k ≡ kind.RefusedAlike)
+  pub same-rows : (rowKindAt file file k ≡ kind.Answered) ⊎ (rowKindAt file file k ≡ kind.RefusedAlike)
   pub same-figure : Unmoved (figureAt file file k j)
 
 abbrev pub NothingMoved : Type 0
@@ -117,7 +117,7 @@ exchanged kind.RefusedAlike = kind.RefusedAlike
 exchanged kind.RefusedUnlike = kind.RefusedUnlike
 
 pub record EitherWay (left right : List ℕ) : Type 0 where
-  pub its-kinds : (k : ℕ) → kindAt right left k ≡ exchanged (kindAt left right k)
+  pub its-kinds : (k : ℕ) → rowKindAt right left k ≡ exchanged (rowKindAt left right k)
   pub its-figures : (k j : ℕ) → figureAt right left k j ≡ figureAt left right k j
   pub its-largest : (count : ℕ) → largestOf right left count ≡ largestOf left right count
 
@@ -138,7 +138,7 @@ pub record IsRow (r : Row) : Type 0 where
   pub are-words : Below (2 ^ 64) (wordsIn r)
 
 abbrev pub AreRows : List Row → Type 0
-AreRows rs = All IsRow rs
+AreRows rs = AllOf IsRow rs
 
 -- "edition 1, the request count, then per request 11 words".
 abbrev pub fileOf : List Row → List ℕ

@@ -7,8 +7,8 @@ use lib.Ieee.{ofBits}
 use lib.ListN.{length, take, replicate}
 use Rattle.bits.specs.Words.{infinity, minusZero}
 use Rattle.files_words.specs.Bytes.{numberOf, bytesOf, asBytes, words, wordsFrom, wordAt}
-use Rattle.files_sections.specs.Checks.{walk, countCheck, countedCheck, editionCheck, filledCheck}
-use Rattle.files_told.specs.Told.{rowKindOf, figureOf, comparisonWords}
+use Rattle.files_checks.specs.Checks.{walk, countCheck, countedCheck, editionCheck, filledCheck}
+use Rattle.files_differences.specs.Told.{rowKindOf, figureOf, comparisonWords}
 use Rattle.files_compare.specs.Compare.{resultsCheck, figuresTold, rowAt, rowsTold, largestInRow, largestOf, comparisonOf, compareWords, runAfter}
 
 -- ---- Words.

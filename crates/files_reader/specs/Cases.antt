@@ -4,9 +4,13 @@ use mathlib.Core.Path.{_≡_, refl}
 use mathlib.Core.List.{List, [], _∷_, _++_}
 use lib.ListN.{replicate}
 use Rattle.files_words.specs.Bytes.{asBytes}
+use Rattle.files_formats.specs.declared.elements.Edition.the-variants.{One}
+use Rattle.files_formats.specs.declared.elements.Section.the-variants.{Centres, States, Requests}
+use Rattle.files_formats.specs.declared.shapes.Shape.{Shape}
+use Rattle.files_formats.specs.Shapes.{shapeOf, placeOf}
 use Rattle.files_reader.specs.declared.Reading.{Reading}
 use Rattle.files_reader.specs.declared.Reading.the-variants as reading
-use Rattle.files_reader.specs.Reader.{longestFile, placesOf, readingOf}
+use Rattle.files_reader.specs.Reader.{longestFile, readingOf}
 
 -- P10 as a file, byte by byte: the edition, 1; one centre, whose μ is 0; one state, of centre 0 and epoch 0, at (1,0,0) and at rest; one request, for state 0
 -- at time 1. "Little-endian": 3FF0000000000000 hex, the word of 1.0, begins with its six zero bytes.
@@ -30,16 +34,15 @@ p10File =
     ∷ []
 
 -- Its sections, by bytes: the counts stand after 8 bytes, 8 + 8 + 8 bytes, and 72 bytes more.
-abbrev oneOfEach : Reading
-oneOfEach = reading.Sections (record {
-  centres = record { place = 8; count = 1 };
-  states = record { place = 24; count = 1 };
-  requests = record { place = 96; count = 1 };
-})
+abbrev pub oneOfEach : Shape
+oneOfEach = shapeOf One 1 1 1
 
-p10 : readingOf p10File ≡ oneOfEach
+p10 : readingOf p10File ≡ reading.Sections oneOfEach
 unfolding readingOf
 p10 = refl
+
+places : (placeOf oneOfEach Centres ≡ 8) × (placeOf oneOfEach States ≡ 24) × (placeOf oneOfEach Requests ≡ 96)
+places = (refl, refl, refl)
 
 -- What the reader answers of the file of these words.
 abbrev pub Reads : List ℕ → Reading → Type 0
@@ -51,7 +54,7 @@ unfolding readingOf asBytes
 empty = refl
 
 -- The shortest file: 32 bytes.
-smallest : Reads (1 ∷ 0 ∷ 0 ∷ 0 ∷ []) (reading.Sections (placesOf 0 0 0))
+smallest : Reads (1 ∷ 0 ∷ 0 ∷ 0 ∷ []) (reading.Sections (shapeOf One 0 0 0))
 unfolding readingOf asBytes
 smallest = refl
 
@@ -59,7 +62,7 @@ smallest = refl
 abbrev pub one-each : List ℕ
 one-each = 1 ∷ 1 ∷ 398600 ∷ 1 ∷ 0 ∷ 7 ∷ 1 ∷ 2 ∷ 3 ∷ 4 ∷ 5 ∷ 6 ∷ 1 ∷ 0 ∷ 9 ∷ []
 
-one : Reads one-each oneOfEach
+one : Reads one-each (reading.Sections oneOfEach)
 unfolding readingOf asBytes
 one = refl
 
@@ -112,13 +115,12 @@ second-centre-only : Reads (1 ∷ 2 ∷ 7 ∷ 7 ∷ 1 ∷ 1 ∷ 7 ∷ 1 ∷ 2 �
 unfolding readingOf asBytes
 second-centre-only = refl
 
-second-state : Reads (1 ∷ 1 ∷ 7 ∷ 2 ∷ 0 ∷ 7 ∷ 1 ∷ 2 ∷ 3 ∷ 4 ∷ 5 ∷ 6 ∷ 0 ∷ 7 ∷ 1 ∷ 2 ∷ 3 ∷ 4 ∷ 5 ∷ 6 ∷ 1 ∷ 1 ∷ 9 ∷ []) (reading.Sections (record {
-  centres = record { place = 8; count = 1 };
-  states = record { place = 24; count = 2 };
-  requests = record { place = 160; count = 1 };
-}))
+second-state : Reads (1 ∷ 1 ∷ 7 ∷ 2 ∷ 0 ∷ 7 ∷ 1 ∷ 2 ∷ 3 ∷ 4 ∷ 5 ∷ 6 ∷ 0 ∷ 7 ∷ 1 ∷ 2 ∷ 3 ∷ 4 ∷ 5 ∷ 6 ∷ 1 ∷ 1 ∷ 9 ∷ []) (reading.Sections (shapeOf One 1 2 1))
 unfolding readingOf asBytes
 second-state = refl
+
+second-place : placeOf (shapeOf One 1 2 1) Requests ≡ 160
+second-place = refl
 
 -- A byte short, a byte long.
 one-short : readingOf (asBytes (1 ∷ 0 ∷ 0 ∷ []) ++ replicate 7 0) ≡ reading.Refused 21 24

@@ -1,70 +1,73 @@
 -- Document 01: "The reader walks forward, answers either the three section places or a number with its byte place: 21 a needed word not whole, 22 edition, 23
 -- count above limit, 24 number not in its section, 25 bytes left after the last section. A section place is the byte of its count word, and the count comes
--- with it. The place of a refusal is the first byte of the word at fault, for 25 the first byte left."
-use Prim.Native.Nat.{ℕ, zero, suc}
+-- with it. The place of a refusal is the first byte of the word at fault, for 25 the first byte left." The shape of a file says its places and counts.
+use Prim.Native.Nat.{ℕ}
 use mathlib.Core.List.{List, [], _∷_}
 use Rattle.files_words.specs.Bytes.{wordAt}
-use Rattle.files_sections.specs.declared.sections.Section.{Section}
-use Rattle.files_sections.specs.declared.sections.Section.the-variants.{Centres, States, Requests}
-use Rattle.files_sections.specs.declared.checks.Check.{Check}
-use Rattle.files_sections.specs.declared.checks.Check.the-variants.{Sound, Fault}
-use Rattle.files_sections.specs.Checks.{_⟫_, editionCheck, countedCheck, endCheck}
-use Rattle.files_sections.specs.Sections.{limitOf, elementEdition, sectionCheck, after, centresPlace, statesPlace, requestsPlace, endPlace}
-use Rattle.files_reader.specs.declared.Places.{Places}
+use Rattle.files_checks.specs.declared.Check.{Check}
+use Rattle.files_checks.specs.declared.Check.the-variants.{Sound, Fault}
+use Rattle.files_checks.specs.Checks.{_⟫_, editionCheck, endCheck}
+use Rattle.files_formats.specs.declared.elements.Edition.{Edition}
+use Rattle.files_formats.specs.declared.elements.Edition.the-variants.{One}
+use Rattle.files_formats.specs.declared.elements.Section.{Section}
+use Rattle.files_formats.specs.declared.elements.Section.the-variants.{Centres, States, Requests}
+use Rattle.files_formats.specs.declared.shapes.Shape.{Shape}
+use Rattle.files_formats.specs.Elements.{isEdition, editionOf, sections, limitOf}
+use Rattle.files_formats.specs.Shapes.{shapeOf, withCount, placeOf, endOf, sectionCheck}
 use Rattle.files_reader.specs.declared.Reading.{Reading}
 use Rattle.files_reader.specs.declared.Reading.the-variants.{Sections, Refused}
 
--- "at most 56,160 bytes": every section at its limit.
+-- "at most 56,160 bytes": every section at its limit. The longest file of an edition, and of all editions.
+abbrev pub longestOf : Edition → ℕ
+longestOf edition = endOf (shapeOf edition (limitOf Centres) (limitOf States) (limitOf Requests))
+
 abbrev pub longestFile : ℕ
-longestFile = endPlace (limitOf Centres) (limitOf States) (limitOf Requests)
+longestFile = longestOf One
 
--- "The reader walks forward": the edition, the sections in their order, the end. Each section tells by its count where the next one stands.
+-- ---- "The reader walks forward": each section tells by its count where the next one stands. A shape with the count that a file has of one section more,
+-- which stands where the counts before it tell; and with those of sections in their order.
+abbrev pub grown : List ℕ → Shape → Section → Shape
+grown file shape section = withCount shape section (wordAt file (placeOf shape section))
+
+abbrev pub grownBy : List ℕ → Shape → List Section → Shape
+grownBy file shape [] = shape
+grownBy file shape (section ∷ rest) = grownBy file (grown file shape section) rest
+
+unfoldable pub shapeIn : Edition → List ℕ → Shape
+unfolding wordAt
+shapeIn edition file = grownBy file (shapeOf edition 0 0 0) sections
+
+-- The check of sections in their order, and that nothing is left after the last.
+unfoldable pub sectionsCheck : List ℕ → Shape → List Section → Check
+unfolding sectionCheck wordAt
+sectionsCheck file shape [] = endCheck file (endOf shape)
+sectionsCheck file shape (section ∷ rest) = sectionCheck file shape section ⟫ sectionsCheck file (grown file shape section) rest
+
+-- The edition, the sections, the end.
+abbrev pub editionIn : List ℕ → Edition
+editionIn file = editionOf (wordAt file 0)
+
+abbrev pub firstCheck : List ℕ → Check
+firstCheck file = editionCheck file (isEdition (wordAt file 0))
+
 unfoldable pub fileCheck : List ℕ → Check
-unfolding editionCheck countedCheck wordAt
-fileCheck file =
-    let centres = wordAt file centresPlace in
-    let states = wordAt file (statesPlace centres) in
-    let requests = wordAt file (requestsPlace centres states) in
-    editionCheck file elementEdition
-    ⟫ sectionCheck file centresPlace Centres 0
-    ⟫ sectionCheck file (statesPlace centres) States centres
-    ⟫ sectionCheck file (requestsPlace centres states) Requests states
-    ⟫ endCheck file (endPlace centres states requests)
-
--- Where sections with these counts stand.
-abbrev pub placesOf : ℕ → ℕ → ℕ → Places
-placesOf centres states requests =
-    record {
-      centres = record { place = centresPlace; count = centres };
-      states = record { place = statesPlace centres; count = states };
-      requests = record { place = requestsPlace centres states; count = requests };
-    }
+unfolding editionCheck sectionsCheck
+fileCheck file = firstCheck file ⟫ sectionsCheck file (shapeOf (editionIn file) 0 0 0) sections
 
 -- The answer.
-abbrev pub readingBy : Check → Places → Reading
-readingBy Sound places = Sections places
-readingBy (Fault number place) places = Refused number place
-
-unfoldable pub sectionsOf : List ℕ → Places
-unfolding wordAt
-sectionsOf file =
-    let centres = wordAt file centresPlace in
-    let states = wordAt file (statesPlace centres) in
-    placesOf centres states (wordAt file (requestsPlace centres states))
+abbrev pub readingBy : Check → Shape → Reading
+readingBy Sound shape = Sections shape
+readingBy (Fault number place) shape = Refused number place
 
 unfoldable pub readingOf : List ℕ → Reading
-unfolding fileCheck sectionsOf
-readingOf file = readingBy (fileCheck file) (sectionsOf file)
+unfolding fileCheck shapeIn
+readingOf file = readingBy (fileCheck file) (shapeIn (editionIn file) file)
 
--- ---- What the reader's inner steps answer: the chain of checks from any section on, each where the one before it ends; and the sections in their order.
-unfoldable pub sectionsCheck : List ℕ → (place below : ℕ) → List Section → Check
-unfolding countedCheck wordAt
-sectionsCheck file place below [] = endCheck file place
-sectionsCheck file place below (section ∷ rest) =
-    let count = wordAt file place in
-    sectionCheck file place section below ⟫ sectionsCheck file (after section place count) count rest
+-- ---- What the reader's inner steps answer: after what was read so far, one section more, and the end.
+abbrev pub nextReading : List ℕ → Reading → Section → Reading
+nextReading file (Sections shape) section = readingBy (sectionCheck file shape section) (grown file shape section)
+nextReading file (Refused number place) section = Refused number place
 
-abbrev pub sectionAt : (index : ℕ) → Section
-sectionAt zero = Centres
-sectionAt (suc zero) = States
-sectionAt (suc (suc n)) = Requests
+abbrev pub endReading : List ℕ → Reading → Reading
+endReading file (Sections shape) = readingBy (endCheck file (endOf shape)) shape
+endReading file (Refused number place) = Refused number place

@@ -1,5 +1,5 @@
--- Lemmas on places beyond a file's end, on τ, on rows and their places, and what each public function leaves open.
-pub mod Beyond
+-- Laws of the numbers in an accepted file, of τ, of rows and their places, and what each public function leaves open.
+pub mod Numbers
 pub mod Tau
 pub mod Rows
 pub mod Own

@@ -17,26 +17,26 @@ use Rattle.bits.specs.Choice.{pick}
 use Rattle.files_words.specs.Bytes.{asBytes, put}
 use Rattle.files_words.proofs.WordLaws.{length-as-bytes, as-bytes-append}
 use Rattle.files_words.proofs.PutLaws.{put-next, put-outside, length-put}
-use Rattle.files_reader.specs.declared.Places.{Places}
+use Rattle.files_formats.specs.declared.shapes.Shape.{Shape}
 use Rattle.files_results.specs.Requests.{requestWords}
-use Rattle.files_sections.specs.ResultLayout.{resultEdition, rowWords, rowPlace}
+use Rattle.files_formats.specs.Rows.{resultEdition, resultWidth, resultPlace}
 use Rattle.files_results.specs.Results.{rowOf, refusedRow, RowsName, rowsOf, sectionsWords, shortRoom, outcomeIn, withRow, withRows}
 
 -- ---- Rows.
-pub row-length : (words : List ℕ) → length (rowOf words) ≡ rowWords
+pub row-length : (words : List ℕ) → length (rowOf words) ≡ resultWidth
 unfolding rowOf answerWords figuresOf
 row-length words = refl
 
-pub rows-length : (file : List ℕ) (places : Places) (n : ℕ) → length (rowsOf file places n) ≡ rowWords * n
+pub rows-length : (file : List ℕ) (shape : Shape) (n : ℕ) → length (rowsOf file shape n) ≡ n * resultWidth
 unfolding rowsOf
-rows-length file places zero = refl
-rows-length file places (suc n) =
-    length-append (rowsOf file places n) (rowOf (requestWords file places n))
-    ∙ (omega (arith, rows-length file places n, row-length (requestWords file places n)))
+rows-length file shape zero = refl
+rows-length file shape (suc n) =
+    length-append (rowsOf file shape n) (rowOf (requestWords file shape n))
+    ∙ (omega (arith, rows-length file shape n, row-length (requestWords file shape n)))
 
 -- T-05: a row is of the call's answer, and its first word the call's refusal.
 rowFrom : Answer → List ℕ
-rowFrom a = take rowWords (answerWords a)
+rowFrom a = take resultWidth (answerWords a)
 
 of-answer : (words : List ℕ) → rowOf words ≡ rowFrom (propagateOf words)
 unfolding rowOf rowFrom
@@ -50,46 +50,46 @@ of-refusal : (n : ℕ) → rowFrom (refused n 0) ≡ refusedRow n
 unfolding rowFrom answerWords figuresOf refused toBits ofBits
 of-refusal n = refl
 
-eight : (file : List ℕ) (places : Places) (k : ℕ) → length (requestWords file places k) ≡ 8
+eight : (file : List ℕ) (shape : Shape) (k : ℕ) → length (requestWords file shape k) ≡ 8
 unfolding requestWords
-eight file places k = refl
+eight file shape k = refl
 
 pub rows-name : RowsName
-rows-name file places k figure =
-    let words = requestWords file places k in
-    let names = names-figure _ _ words (eight file places k) .0 in (
+rows-name file shape k figure =
+    let words = requestWords file shape k in
+    let names = names-figure _ _ words (eight file shape k) .0 in (
       λ f. of-answer words ∙ ap rowFrom (names .named figure f) ∙ of-refusal (figureRefusal figure),
       λ l e. names .told figure l (sym (first-word words) ∙ e),
     )
 
-module _ (file : List ℕ) (places : Places) where
-  rows-bytes : (n : ℕ) → length (asBytes (rowsOf file places n)) ≡ 8 * (rowWords * n)
-  rows-bytes n = length-as-bytes (rowsOf file places n) ∙ (omega (arith, rows-length file places n))
+module _ (file : List ℕ) (shape : Shape) where
+  rows-bytes : (n : ℕ) → length (asBytes (rowsOf file shape n)) ≡ 8 * (n * resultWidth)
+  rows-bytes n = length-as-bytes (rowsOf file shape n) ∙ (omega (arith, rows-length file shape n))
 
-  pub row-after : (room : List ℕ) (k : ℕ) → rowPlace (suc k) ≤ length room →
-      withRow file places k (withRows file places k room) ≡ withRows file places (suc k) room
+  pub row-after : (room : List ℕ) (k : ℕ) → resultPlace (suc k) ≤ length room →
+      withRow file shape k (withRows file shape k room) ≡ withRows file shape (suc k) room
   unfolding rowsOf
   row-after room k h =
-      let r = length-as-bytes (rowOf (requestWords file places k)) in
-      let l = row-length (requestWords file places k) in
-      put-next room (asBytes (rowsOf file places k)) (asBytes (rowOf (requestWords file places k))) (rowPlace 0) (rowPlace k)
+      let r = length-as-bytes (rowOf (requestWords file shape k)) in
+      let l = row-length (requestWords file shape k) in
+      put-next room (asBytes (rowsOf file shape k)) (asBytes (rowOf (requestWords file shape k))) (resultPlace 0) (resultPlace k)
       (omega (arith, rows-bytes k)) (omega (arith, rows-bytes k, r, l))
-      ∙ ap (put room (rowPlace 0)) (sym (as-bytes-append (rowsOf file places k) (rowOf (requestWords file places k))))
+      ∙ ap (put room (resultPlace 0)) (sym (as-bytes-append (rowsOf file shape k) (rowOf (requestWords file shape k))))
 
-  pub result-length : length (asBytes (sectionsWords file places)) ≡ rowPlace (places .requests .count)
-  result-length = length-as-bytes (sectionsWords file places) ∙ (omega (arith, rows-length file places (places .requests .count)))
+  pub result-length : length (asBytes (sectionsWords file shape)) ≡ resultPlace (shape .requests)
+  result-length = length-as-bytes (sectionsWords file shape) ∙ (omega (arith, rows-length file shape (shape .requests)))
 
-  pub all-rows : (room : List ℕ) → rowPlace (places .requests .count) ≤ length room →
-      withRows file places (places .requests .count) (put room 0 (asBytes (resultEdition ∷ places .requests .count ∷ [])))
-      ≡ put room 0 (asBytes (sectionsWords file places))
+  pub all-rows : (room : List ℕ) → resultPlace (shape .requests) ≤ length room →
+      withRows file shape (shape .requests) (put room 0 (asBytes (resultEdition ∷ shape .requests ∷ [])))
+      ≡ put room 0 (asBytes (sectionsWords file shape))
   all-rows room h =
-      let n = places .requests .count in
+      let n = shape .requests in
       let two = length-as-bytes (resultEdition ∷ n ∷ []) in
-      put-next room (asBytes (resultEdition ∷ n ∷ [])) (asBytes (rowsOf file places n)) 0 (rowPlace 0) (omega (arith, two)) (omega (arith, two, rows-bytes n))
-      ∙ ap (put room 0) (sym (as-bytes-append (resultEdition ∷ n ∷ []) (rowsOf file places n)))
+      put-next room (asBytes (resultEdition ∷ n ∷ [])) (asBytes (rowsOf file shape n)) 0 (resultPlace 0) (omega (arith, two)) (omega (arith, two, rows-bytes n))
+      ∙ ap (put room 0) (sym (as-bytes-append (resultEdition ∷ n ∷ []) (rowsOf file shape n)))
 
-  pub room-length : (room : List ℕ) (k : ℕ) → rowPlace k ≤ length room → length (withRows file places k room) ≡ length room
-  room-length room k h = length-put room (asBytes (rowsOf file places k)) (rowPlace 0) (omega (arith, rows-bytes k))
+  pub room-length : (room : List ℕ) (k : ℕ) → resultPlace k ≤ length room → length (withRows file shape k room) ≡ length room
+  room-length room k h = length-put room (asBytes (rowsOf file shape k)) (resultPlace 0) (omega (arith, rows-bytes k))
 
 -- ---- What is answered.
 module _ (result room : List ℕ) where

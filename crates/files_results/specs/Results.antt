@@ -9,30 +9,21 @@ use Rattle.bits.specs.Choice.{pick}
 use Rattle.states_start.specs.Given.{figureRefusal, FirstBad}
 use Rattle.states.specs.Call.{answerWords, propagateOf}
 use Rattle.files_words.specs.Bytes.{asBytes, put}
-use Rattle.files_sections.specs.declared.sections.Section.the-variants.{Requests}
-use Rattle.files_sections.specs.Sections.{limitOf}
-use Rattle.files_sections.specs.ResultLayout.{resultEdition, rowWords, rowPlace}
+use Rattle.files_formats.specs.declared.shapes.Shape.{Shape}
+use Rattle.files_formats.specs.Rows.{resultEdition, resultWidth, mostResults, resultPlace, refusedWords}
 use Rattle.files_reader.specs.Reader.{readingOf}
-use Rattle.files_reader.specs.declared.Places.{Places}
 use Rattle.files_reader.specs.declared.Reading.{Reading}
 use Rattle.files_reader.specs.declared.Reading.the-variants as reading
 use Rattle.files_results.specs.Requests.{requestWords}
 use Rattle.files_results.specs.declared.Outcome.{Outcome}
 
--- A file whose sections stand at these places.
-abbrev pub Accepted : List ℕ → Places → Type 0
-Accepted file places = readingOf file ≡ reading.Sections places
-
--- ---- How long a result file can be, by the most requests that an element file can have; and the words that a refused file gives.
-abbrev pub refusedWords : ℕ
-refusedWords = 3
-
+-- ---- How long a result file can be, by the most requests that an element file can have.
 abbrev pub longestResult : ℕ
-longestResult = rowPlace (limitOf Requests)
+longestResult = resultPlace mostResults
 
 -- ---- "per request 11 words: refusal or 0, points, position, velocity, end acceleration": the first eleven words of an answer.
 unfoldable pub rowOf : List ℕ → List ℕ
-rowOf words = take rowWords (answerWords (propagateOf words))
+rowOf words = take resultWidth (answerWords (propagateOf words))
 
 -- A row that is refused before any point is tried.
 abbrev pub refusedRow : (refusal : ℕ) → List ℕ
@@ -42,19 +33,19 @@ refusedRow refusal = refusal ∷ 0 ∷ 0 ∷ 0 ∷ 0 ∷ 0 ∷ 0 ∷ 0 ∷ 0 ∷
 -- and τ comes from the request's time and the state's epoch.
 abbrev pub RowsName : Type 0
 RowsName =
-    (file : List ℕ) (places : Places) (k figure : ℕ) →
-    let words = requestWords file places k in
+    (file : List ℕ) (shape : Shape) (k figure : ℕ) →
+    let words = requestWords file shape k in
     (FirstBad words figure → rowOf words ≡ refusedRow (figureRefusal figure))
     × (figure < 8 → getD (rowOf words) 0 0 ≡ figureRefusal figure → FirstBad words figure)
 
 -- The rows of the first n requests.
-unfoldable pub rowsOf : List ℕ → Places → (n : ℕ) → List ℕ
-rowsOf file places zero = []
-rowsOf file places (suc n) = rowsOf file places n ++ rowOf (requestWords file places n)
+unfoldable pub rowsOf : List ℕ → Shape → (n : ℕ) → List ℕ
+rowsOf file shape zero = []
+rowsOf file shape (suc n) = rowsOf file shape n ++ rowOf (requestWords file shape n)
 
 -- ---- The whole file.
-abbrev pub sectionsWords : List ℕ → Places → List ℕ
-sectionsWords file places = resultEdition ∷ places .requests .count ∷ rowsOf file places (places .requests .count)
+abbrev pub sectionsWords : List ℕ → Shape → List ℕ
+sectionsWords file shape = resultEdition ∷ shape .requests ∷ rowsOf file shape (shape .requests)
 
 abbrev pub refusedFile : (number : ℕ) → List ℕ
 refusedFile number = resultEdition ∷ 0 ∷ number ∷ []
@@ -63,7 +54,7 @@ refused-size : (number : ℕ) → length (refusedFile number) ≡ refusedWords
 refused-size number = refl
 
 abbrev pub resultBy : List ℕ → Reading → List ℕ
-resultBy file (reading.Sections places) = sectionsWords file places
+resultBy file (reading.Sections shape) = sectionsWords file shape
 resultBy file (reading.Refused number place) = refusedFile number
 
 unfoldable pub resultFile : List ℕ → List ℕ
@@ -80,8 +71,8 @@ abbrev pub outcomeOf : List ℕ → (room : List ℕ) → Outcome
 outcomeOf file room = outcomeIn (resultFile file) room
 
 -- ---- What the code's inner steps leave in a room: row k at its place; the first n rows at theirs.
-abbrev pub withRow : List ℕ → Places → (k : ℕ) → (room : List ℕ) → List ℕ
-withRow file places k room = put room (rowPlace k) (asBytes (rowOf (requestWords file places k)))
+abbrev pub withRow : List ℕ → Shape → (k : ℕ) → (room : List ℕ) → List ℕ
+withRow file shape k room = put room (resultPlace k) (asBytes (rowOf (requestWords file shape k)))
 
-abbrev pub withRows : List ℕ → Places → (n : ℕ) → (room : List ℕ) → List ℕ
-withRows file places n room = put room (rowPlace 0) (asBytes (rowsOf file places n))
+abbrev pub withRows : List ℕ → Shape → (n : ℕ) → (room : List ℕ) → List ℕ
+withRows file shape n room = put room (resultPlace 0) (asBytes (rowsOf file shape n))

@@ -1,90 +1,44 @@
--- What is gathered from a centre's epochs is its entry.
-use mathlib.Core.Path.{_≡_, refl, ap, _∙_}
-use mathlib.Core.Bool.{Bool, true, false}
-use mathlib.Core.List.{List, [], _∷_}
+-- What is gathered from the states in use is the entry of the centre.
+use mathlib.Core.Path.{_≡_, refl, ap, ap₂, _∙_}
+use mathlib.Core.Bool.{Bool, true, false, not, _&&_}
+use mathlib.Core.List.{List, [], _∷_, map}
 use Prim.Native.Nat.{ℕ, suc, _+_, _-_, _*_, _^_, _<_, _≤_}
-use native.Mathlib.Decide.{decLt}
 use native.Mathlib.Omega.{arith}
-use borrow.Author.Tests.{lt-ltb, le-ltb, ne-eqb}
-use lib.Dec.{eqb}
-use lib.ListN.{length, getD, take, drop}
-use lib.Seq.{getD-take, getD-drop, drop-drop}
+use borrow.Author.Tests.{ltb-false, ne-eqb}
+use lib.Dec.{eqb, ltb}
+use lib.ListN.{length, getD, drop, drop-of-length-le}
 use Rattle.bits.specs.Choice.{pick}
-use Rattle.bits.specs.Line.{isNanWord, lineOf, wordOn}
+use Rattle.bits.specs.Line.{isNanWord, wordOn}
 use Rattle.bits.proofs.Line.{below-line}
 use Rattle.files_words.specs.Bytes.{Below}
-use Rattle.files_sections.specs.declared.sections.Section.the-variants.{States}
-use Rattle.files_sections.specs.Sections.{widthOf, stateCentre, stateEpoch}
-use Rattle.files_summary.specs.declared.entries.Summary.{Summary}
+use Rattle.files_records.specs.Records.{recordsOf}
+use Rattle.files_records.proofs.RecordLaws.{length-records, records-from, word-in}
+use Rattle.files_formats.specs.declared.elements.Edition.{Edition}
+use Rattle.files_formats.specs.declared.elements.Column.the-variants as at
+use Rattle.files_formats.specs.Elements.{columnOf}
+use Rattle.files_formats.proofs.EditionLaws.{centre-is-number}
+use Rattle.files_formats.proofs.EditionLaws as edition-laws
 use Rattle.files_summary.specs.declared.entries.Tally.{Tally}
-use Rattle.files_summary.specs.Entries.{inUse, centreOf, epochOf, epochsOf, numbersIn, nansIn, earlier, later, earliest, latest, shownBy, entryBy, entryOf}
-use Rattle.files_summary.specs.Entries.{nothing, withNan, withPlace, withEpoch, withState, gathered, shown}
+use Rattle.files_summary.specs.Entries.{stateWidth, centreOf, epochOf, momentOf, isDated, isUndated, chosen, momentsOf, nansOf, earlier, later, earliest, latest, entryBy, centreEntry}
+use Rattle.files_summary.specs.Entries.{noTally, withNan, withMoment, withState, gathered, shown}
 
--- ---- All epochs at once: what they add to a tally.
-abbrev added : Tally → List ℕ → Tally
-added t es =
-    record {
-      states = t .states + length (numbersIn es);
-      nans = t .nans + nansIn es;
-      first = earliest (t .first) (numbersIn es);
-      last = latest (t .last) (numbersIn es);
-    }
+-- ---- The moments that a tally begins with give way to the first of a list.
+moments-below : (edition : Edition) (ss : List (List ℕ)) → Below (2 ^ 64) (map (momentOf edition) ss)
+moments-below edition [] = tt
+moments-below edition (s ∷ ss) = (below-line (epochOf edition s), moments-below edition ss)
 
-gathered-added : (t : Tally) (es : List ℕ) → gathered t es ≡ added t es
-unfolding gathered numbersIn nansIn earliest latest
-gathered-added t [] =
-    let s : t .states ≡ t .states + 0 = omega arith in
-    let n : t .nans ≡ t .nans + 0 = omega arith in
-    λ i. record { states = s i; nans = n i; first = t .first; last = t .last }
-gathered-added t (e ∷ es) = gathered-added (withEpoch t e) es ∙ go (isNanWord e)
-  where
-    go : (b : Bool) → added (pick b (withNan t) (withPlace t (lineOf e))) es
-        ≡ record {
-          states = t .states + length (pick b (numbersIn es) (lineOf e ∷ numbersIn es));
-          nans = t .nans + pick b (1 + nansIn es) (nansIn es);
-          first = earliest (t .first) (pick b (numbersIn es) (lineOf e ∷ numbersIn es));
-          last = latest (t .last) (pick b (numbersIn es) (lineOf e ∷ numbersIn es));
-        }
-    go true =
-        let n : t .nans + 1 + nansIn es ≡ t .nans + (1 + nansIn es) = omega arith in
-        λ i. record { states = t .states + length (numbersIn es); nans = n i; first = earliest (t .first) (numbersIn es); last = latest (t .last) (numbersIn es) }
-    go false =
-        let s : t .states + 1 + length (numbersIn es) ≡ t .states + length (lineOf e ∷ numbersIn es) = omega arith in
-        λ i. record {
-          states = s i;
-          nans = t .nans + nansIn es;
-          first = earliest (earlier (t .first) (lineOf e)) (numbersIn es);
-          last = latest (later (t .last) (lineOf e)) (numbersIn es);
-        }
-
--- ---- The two places that a tally begins with give way to the first epoch.
-numbers-below : (es : List ℕ) → Below (2 ^ 64) (numbersIn es)
-unfolding numbersIn
-numbers-below [] = tt
-numbers-below (e ∷ es) = go (isNanWord e) (numbers-below es)
-  where
-    go : (b : Bool) → Below (2 ^ 64) (numbersIn es) → Below (2 ^ 64) (pick b (numbersIn es) (lineOf e ∷ numbersIn es))
-    go true h = h
-    go false h = (below-line e, h)
+gives-way : (b : Bool) (from p : ℕ) → (b ≡ false → from ≡ p) → pick b p from ≡ p
+gives-way true from p h = refl
+gives-way false from p h = h refl
 
 none-earlier : (p : ℕ) → p < 2 ^ 64 → earlier (2 ^ 64 - 1) p ≡ p
-none-earlier p h = elim (decLt p (2 ^ 64 - 1)) [
-  | yes l ↦ ap (λ (b : Bool). pick b p (2 ^ 64 - 1)) (lt-ltb p (2 ^ 64 - 1) l)
-  | no g ↦ ap (λ (b : Bool). pick b p (2 ^ 64 - 1)) (le-ltb p (2 ^ 64 - 1) (omega arith)) ∙ (omega arith)
-]
+none-earlier p h = gives-way (ltb p (2 ^ 64 - 1)) (2 ^ 64 - 1) p (λ e. omega (arith, ltb-false p (2 ^ 64 - 1) e))
 
 none-later : (p : ℕ) → later 0 p ≡ p
-none-later p = elim (decLt 0 p) [
-  | yes l ↦ ap (λ (b : Bool). pick b p 0) (lt-ltb 0 p l)
-  | no g ↦ ap (λ (b : Bool). pick b p 0) (le-ltb 0 p (omega arith)) ∙ (omega arith)
-]
+none-later p = gives-way (ltb 0 p) 0 p (λ e. omega (arith, ltb-false 0 p e))
 
--- The entry of these places, and of so many NaNs.
-abbrev entryAt : List ℕ → ℕ → Summary
-entryAt ps nans = record { states = length ps; nans = nans; earliest = shownBy earliest ps; latest = shownBy latest ps }
-
-shown-by : (ps : List ℕ) (nans : ℕ) → Below (2 ^ 64) ps → shown (record { states = 0 + length ps; nans = 0 + nans; first = earliest (2 ^ 64 - 1) ps; last = latest 0 ps }) ≡ entryAt ps nans
-unfolding shownBy earliest latest
+shown-by : (ps : List ℕ) (nans : ℕ) → Below (2 ^ 64) ps → shown (record { states = 0 + length ps; nans = 0 + nans; first = earliest (2 ^ 64 - 1) ps; last = latest 0 ps }) ≡ entryBy ps nans
+unfolding entryBy
 shown-by [] nans h = let n : 0 + nans ≡ nans = omega arith in λ i. record { states = 0; nans = n i; earliest = 0; latest = 0 }
 shown-by (p ∷ ps) nans h =
     let n : 0 + nans ≡ nans = omega arith in
@@ -95,44 +49,75 @@ shown-by (p ∷ ps) nans h =
     (ne-eqb (0 + length (p ∷ ps)) 0 (λ e. omega arith))
     ∙ (λ i. record { states = s i; nans = n i; earliest = wordOn (earliest (none-earlier p (h .0) i) ps); latest = wordOn (latest (none-later p i) ps) })
 
-pub shown-gathered : (centre : ℕ) (states : List (List ℕ)) → shown (gathered nothing (epochsOf centre states)) ≡ entryOf centre states
-unfolding entryBy
-shown-gathered centre states =
-    let es = epochsOf centre states in
-    ap shown (gathered-added nothing es) ∙ shown-by (numbersIn es) (nansIn es) (numbers-below es)
+module _ (edition : Edition) (centre : ℕ) where
+  -- ---- All states at once: what they add to a tally.
+  abbrev added : Tally → List (List ℕ) → Tally
+  added t ss =
+      let ps = momentsOf edition centre ss in
+      record { states = t .states + length ps; nans = t .nans + nansOf edition centre ss; first = earliest (t .first) ps; last = latest (t .last) ps }
 
--- ---- One state of those left in a run.
-picked : (t : Tally) (b : Bool) (e : ℕ) (es : List ℕ) → gathered t (pick b (e ∷ es) es) ≡ gathered (pick b (withEpoch t e) t) es
-unfolding gathered
-picked t true e es = refl
-picked t false e es = refl
+  gathered-added : (t : Tally) (ss : List (List ℕ)) → gathered (columnOf edition at.Centre) (columnOf edition at.Epoch) centre t ss ≡ added t ss
+  unfolding gathered chosen earliest latest
+  gathered-added t [] =
+      let s : t .states ≡ t .states + 0 = omega arith in
+      let n : t .nans ≡ t .nans + 0 = omega arith in
+      λ i. record { states = s i; nans = n i; first = t .first; last = t .last }
+  gathered-added t (s ∷ ss) = gathered-added (withState t centre (centreOf edition s) (epochOf edition s)) ss ∙ go (eqb (centreOf edition s) centre) (isNanWord (epochOf edition s))
+    where
+      go : (a b : Bool) →
+          let with = map (momentOf edition) (pick (a && not b) (s ∷ chosen (isDated edition centre) ss) (chosen (isDated edition centre) ss)) in
+          added (pick a (pick b (withNan t) (withMoment t (momentOf edition s))) t) ss
+          ≡ record {
+            states = t .states + length with;
+            nans = t .nans + length (pick (a && b) (s ∷ chosen (isUndated edition centre) ss) (chosen (isUndated edition centre) ss));
+            first = earliest (t .first) with;
+            last = latest (t .last) with;
+          }
+      go true true =
+          let n : t .nans + 1 + nansOf edition centre ss ≡ t .nans + length (s ∷ chosen (isUndated edition centre) ss) = omega arith in
+          λ i. record { states = t .states + length (momentsOf edition centre ss); nans = n i; first = earliest (t .first) (momentsOf edition centre ss); last = latest (t .last) (momentsOf edition centre ss) }
+      go true false =
+          let n : t .states + 1 + length (momentsOf edition centre ss) ≡ t .states + length (momentOf edition s ∷ momentsOf edition centre ss) = omega arith in
+          λ i. record {
+            states = n i;
+            nans = t .nans + nansOf edition centre ss;
+            first = earliest (earlier (t .first) (momentOf edition s)) (momentsOf edition centre ss);
+            last = latest (later (t .last) (momentOf edition s)) (momentsOf edition centre ss);
+          }
+      go false b = refl
 
-pub word-of-state : (run : List ℕ) (k n : ℕ) → n < widthOf States → getD (take (widthOf States) (drop (k * widthOf States) run)) n 0 ≡ getD run (k * widthOf States + n) 0
-word-of-state run k n h = getD-take (widthOf States) (drop (k * widthOf States) run) n 0 h ∙ getD-drop (k * widthOf States) run n 0
-
-pub gather-step : (t : Tally) (centre : ℕ) (run : List ℕ) (k m : ℕ) →
-    gathered t (epochsOf centre (inUse (drop (k * widthOf States) run) (suc m)))
-    ≡ gathered (withState t centre (getD run (k * widthOf States + stateCentre) 0) (getD run (k * widthOf States + stateEpoch) 0)) (epochsOf centre (inUse (drop ((k + 1) * widthOf States) run) m))
-unfolding epochsOf inUse
-gather-step t centre run k m =
-    let state = take (widthOf States) (drop (k * widthOf States) run) in
-    let rest = epochsOf centre (inUse (drop (widthOf States) (drop (k * widthOf States) run)) m) in
-    let next : k * widthOf States + widthOf States ≡ (k + 1) * widthOf States = omega arith in
-    picked t (eqb (centreOf state) centre) (epochOf state) rest
-    ∙ ap (λ (n : ℕ). gathered (withState t centre n (epochOf state)) rest) (word-of-state run k stateCentre (omega arith))
-    ∙ ap (λ (n : ℕ). gathered (withState t centre (getD run (k * widthOf States + stateCentre) 0) n) rest) (word-of-state run k stateEpoch (omega arith))
-    ∙ ap (λ (r : List ℕ). gathered (withState t centre (getD run (k * widthOf States + stateCentre) 0) (getD run (k * widthOf States + stateEpoch) 0)) (epochsOf centre (inUse r m)))
-    (drop-drop (widthOf States) (k * widthOf States) run ∙ ap (λ (n : ℕ). drop n run) next)
-
-pub none-left : (t : Tally) (centre : ℕ) (run : List ℕ) → gathered t (epochsOf centre (inUse run 0)) ≡ t
-unfolding gathered epochsOf inUse
-none-left t centre run = refl
+  pub shown-gathered : (states : List (List ℕ)) → shown (gathered (columnOf edition at.Centre) (columnOf edition at.Epoch) centre noTally states) ≡ centreEntry edition centre states
+  unfolding centreEntry
+  shown-gathered states =
+      ap shown (gathered-added noTally states) ∙ shown-by (momentsOf edition centre states) (nansOf edition centre states) (moments-below edition (chosen (isDated edition centre) states))
 
 -- Each state adds one to a count at most.
 pub counts-grow : (t : Tally) (centre number e : ℕ) → (withState t centre number e .states ≤ t .states + 1) × (withState t centre number e .nans ≤ t .nans + 1)
-counts-grow t centre number e = go (eqb number centre) (isNanWord e)
+counts-grow t centre number e = go (eqb number centre) (isNanWord e) _
   where
-    go : (a b : Bool) → (pick a (pick b (withNan t) (withPlace t (lineOf e))) t .states ≤ t .states + 1) × (pick a (pick b (withNan t) (withPlace t (lineOf e))) t .nans ≤ t .nans + 1)
-    go true true = (omega arith, omega arith)
-    go true false = (omega arith, omega arith)
-    go false b = (omega arith, omega arith)
+    go : (a b : Bool) (p : ℕ) → (pick a (pick b (withNan t) (withMoment t p)) t .states ≤ t .states + 1) × (pick a (pick b (withNan t) (withMoment t p)) t .nans ≤ t .nans + 1)
+    go true true p = (omega arith, omega arith)
+    go true false p = (omega arith, omega arith)
+    go false b p = (omega arith, omega arith)
+
+-- ---- A state's columns are within it.
+pub centre-inside : (edition : Edition) → columnOf edition at.Centre < stateWidth edition
+centre-inside edition = centre-is-number edition .0
+
+pub epoch-inside : (edition : Edition) → columnOf edition at.Epoch < stateWidth edition
+epoch-inside edition = edition-laws.epoch-inside edition
+
+-- One of the states left in a run, read from it; and none left.
+module _ (w its epoch centre : ℕ) (run : List ℕ) (count : ℕ) where
+  abbrev pub from-state : Tally → (k : ℕ) → Tally
+  from-state t k = gathered its epoch centre t (drop k (recordsOf w run count))
+
+  pub gather-step : (t : Tally) (k : ℕ) → k < count → its < w → epoch < w → from-state t k ≡ from-state (withState t centre (getD run (k * w + its) 0) (getD run (k * w + epoch) 0)) (suc k)
+  unfolding gathered
+  gather-step t k h c e =
+      ap (gathered its epoch centre t) (records-from w run count k h)
+      ∙ ap₂ (λ (a b : ℕ). from-state (withState t centre a b) (suc k)) (word-in w run k its c) (word-in w run k epoch e)
+
+  pub none-left : (t : Tally) (k : ℕ) → count ≤ k → from-state t k ≡ t
+  unfolding gathered
+  none-left t k h = ap (gathered its epoch centre t) (drop-of-length-le (recordsOf w run count) {i = k} (omega (arith, h, length-records w run count)))

@@ -1,20 +1,21 @@
 -- The epochs that an entry shows are the earliest and the latest of its centre's states, by doubles; and its counts are how many there are.
-use mathlib.Core.Path.{_≡_, refl, sym, ap, subst, _∙_}
+use mathlib.Core.Path.{_≡_, refl, sym, ap, ap₂, subst, _∙_}
 use mathlib.Core.Logic.{_⊎_, inl, inr}
-use mathlib.Core.Bool.{Bool, true, false, not, _&&_}
-use mathlib.Core.List.{List, [], _∷_}
-use Prim.Native.Nat.{ℕ, zero, suc, _+_, _^_, _<_, _≤_}
+use mathlib.Core.Bool.{Bool, true, false, not, _&&_, true≢false}
+use mathlib.Core.List.{List, [], _∷_, map}
+use Prim.Native.Nat.{ℕ, zero, suc, _+_, _^_, _<_}
 use native.Mathlib.Decide.{decLt}
 use native.Mathlib.Omega.{arith}
 use borrow.Author.Tests.{le-ltb, ltb-true, ltb-false, eq-eqb, eqb-true, eqb-false}
 use lib.Dec.{eqb, ltb}
 use lib.Ieee.{binary64, isNan, lt, eq, ofBits}
-use lib.ListN.{length, getD}
+use lib.ListN.{length, getD, length-map}
 use Rattle.bits.specs.Choice.{pick}
 use Rattle.bits.specs.Words.{minusZero}
 use Rattle.bits.specs.Line.{isNanWord, lineOf, wordOn}
 use Rattle.bits.proofs.Line.{below-line, above-line, word-back, zero-shown, place-back, in-order, same-place}
-use Rattle.files_summary.specs.Entries.{centreOf, epochOf, epochsOf, numbersIn, nansIn, earlier, later, earliest, latest, shownBy, entryBy}
+use Rattle.files_formats.specs.declared.elements.Edition.{Edition}
+use Rattle.files_summary.specs.Entries.{centreOf, epochOf, momentOf, isDated, isUndated, chosen, momentsOf, earliest, latest, shownBy, centreEntry}
 use Rattle.files_summary.specs.Kept.{OfCentre, TellsTrue, howMany}
 
 -- ---- A place that is one of a list.
@@ -22,149 +23,113 @@ abbrev Among : ℕ → List ℕ → Type 0
 Among x [] = ⊥
 Among x (y ∷ ys) = (x ≡ y) ⊎ Among x ys
 
--- A choice among places goes by a choice of two, one after another. `R p q`: of p and q, p may be chosen.
-record Choice (R : ℕ → ℕ → Type 0) (choice : ℕ → List ℕ → ℕ) : Type 0 where
-  of-two : ℕ → ℕ → ℕ
+-- A choice among places goes by a choice of two, one after another: of p and q, q where it is ahead of p.
+record Choice (ahead : ℕ → ℕ → Bool) (choice : ℕ → List ℕ → ℕ) : Type 0 where
   alone : (p : ℕ) → choice p [] ≡ p
-  next : (p q : ℕ) (qs : List ℕ) → choice p (q ∷ qs) ≡ choice (of-two p q) qs
-  one : (p q : ℕ) → (of-two p q ≡ p) ⊎ (of-two p q ≡ q)
-  left : (p q : ℕ) → R (of-two p q) p
-  right : (p q : ℕ) → R (of-two p q) q
-  itself : (p : ℕ) → R p p
-  through : (p q r : ℕ) → R p q → R q r → R p r
+  next : (p q : ℕ) (qs : List ℕ) → choice p (q ∷ qs) ≡ choice (pick (ahead q p) q p) qs
+  not-itself : (p : ℕ) → ahead p p ≡ false
+  one-way : (p q : ℕ) → ahead q p ≡ true → ahead p q ≡ false
+  through : (p q r : ℕ) → ahead q p ≡ false → ahead r q ≡ false → ahead r p ≡ false
 
-module _ (R : ℕ → ℕ → Type 0) (choice : ℕ → List ℕ → ℕ) (by : Choice R choice) where
-  -- What is chosen is one of the places, and it may be chosen beside each of them.
-  chosen-among : (p : ℕ) (ps : List ℕ) → Among (choice p ps) (p ∷ ps)
-  chosen-among p [] = inl (by .alone p)
-  chosen-among p (q ∷ qs) = go (by .one p q) (chosen-among (by .of-two p q) qs)
-    where
-      go : (by .of-two p q ≡ p) ⊎ (by .of-two p q ≡ q) → Among (choice (by .of-two p q) qs) (by .of-two p q ∷ qs) → Among (choice p (q ∷ qs)) (p ∷ q ∷ qs)
-      go (inl a) (inl e) = inl (by .next p q qs ∙ e ∙ a)
-      go (inr a) (inl e) = inr (inl (by .next p q qs ∙ e ∙ a))
-      go a (inr m) = inr (inr (subst (λ (x : ℕ). Among x qs) (sym (by .next p q qs)) m))
+module _ (ahead : ℕ → ℕ → Bool) (choice : ℕ → List ℕ → ℕ) (by : Choice ahead choice) where
+  -- What is chosen is one of the places, and none of them is ahead of it.
+  abbrev Best : ℕ → List ℕ → Type 0
+  Best c ps = Among c ps × ((x : ℕ) → Among x ps → ahead x c ≡ false)
 
-  chosen-first : (p : ℕ) (ps : List ℕ) (x : ℕ) → Among x (p ∷ ps) → R (choice p ps) x
-  chosen-first p [] x (inl e) = subst (R (choice p [])) (by .alone p ∙ sym e) (by .itself (choice p []))
-  chosen-first p [] x (inr m) = absurd m
-  chosen-first p (q ∷ qs) x m = subst (λ (c : ℕ). R c x) (sym (by .next p q qs)) (go m (chosen-first (by .of-two p q) qs))
+  with-one : (b : Bool) (c p q : ℕ) (qs : List ℕ) → ahead q p ≡ b → Best c (pick b q p ∷ qs) → Best c (p ∷ q ∷ qs)
+  with-one true c p q qs e (m, f) = (inr m, none)
     where
-      go : Among x (p ∷ q ∷ qs) → ((y : ℕ) → Among y (by .of-two p q ∷ qs) → R (choice (by .of-two p q) qs) y) → R (choice (by .of-two p q) qs) x
-      go (inl e) r = subst (R (choice (by .of-two p q) qs)) (sym e) (by .through (choice (by .of-two p q) qs) (by .of-two p q) p (r (by .of-two p q) (inl refl)) (by .left p q))
-      go (inr (inl e)) r = subst (R (choice (by .of-two p q) qs)) (sym e) (by .through (choice (by .of-two p q) qs) (by .of-two p q) q (r (by .of-two p q) (inl refl)) (by .right p q))
-      go (inr (inr n)) r = r x (inr n)
+      none : (x : ℕ) → Among x (p ∷ q ∷ qs) → ahead x c ≡ false
+      none x (inl a) = ap (λ (y : ℕ). ahead y c) a ∙ by .through c q p (f q (inl refl)) (by .one-way p q e)
+      none x (inr n) = f x n
+  with-one false c p q qs e (m, f) = (behind c m, none)
+    where
+      behind : (x : ℕ) → Among x (p ∷ qs) → Among x (p ∷ q ∷ qs)
+      behind x (inl a) = inl a
+      behind x (inr n) = inr (inr n)
+
+      none : (x : ℕ) → Among x (p ∷ q ∷ qs) → ahead x c ≡ false
+      none x (inl a) = f x (inl a)
+      none x (inr (inl a)) = ap (λ (y : ℕ). ahead y c) a ∙ by .through c p q (f p (inl refl)) e
+      none x (inr (inr n)) = f x (inr n)
+
+  best : (p : ℕ) (ps : List ℕ) → Best (choice p ps) (p ∷ ps)
+  best p [] = (inl (by .alone p), none)
+    where
+      none : (x : ℕ) → Among x (p ∷ []) → ahead x (choice p []) ≡ false
+      none x (inl a) = ap₂ ahead a (by .alone p) ∙ by .not-itself p
+      none x (inr m) = absurd m
+  best p (q ∷ qs) =
+      let first = pick (ahead q p) q p in
+      subst (λ (c : ℕ). Best c (p ∷ q ∷ qs)) (sym (by .next p q qs)) (with-one (ahead q p) (choice first qs) p q qs refl (best first qs))
 
 -- ---- The earliest, and the latest.
-picked-one : (b : Bool) (p q : ℕ) → (pick b q p ≡ p) ⊎ (pick b q p ≡ q)
-picked-one true p q = inr refl
-picked-one false p q = inl refl
+abbrev after : ℕ → ℕ → Bool
+after q p = ltb p q
 
-earlier-least : (p q : ℕ) → (earlier p q ≤ p) × (earlier p q ≤ q)
-earlier-least p q = go (ltb q p) refl
-  where
-    go : (b : Bool) → ltb q p ≡ b → (pick b q p ≤ p) × (pick b q p ≤ q)
-    go true e = (omega (arith, ltb-true q p e), omega arith)
-    go false e = (omega arith, omega (arith, ltb-false q p e))
-
-later-most : (p q : ℕ) → (p ≤ later p q) × (q ≤ later p q)
-later-most p q = go (ltb p q) refl
-  where
-    go : (b : Bool) → ltb p q ≡ b → (p ≤ pick b q p) × (q ≤ pick b q p)
-    go true e = (omega (arith, ltb-true p q e), omega arith)
-    go false e = (omega arith, omega (arith, ltb-false p q e))
-
-abbrev AtMost : ℕ → ℕ → Type 0
-AtMost p q = p ≤ q
-
-abbrev AtLeast : ℕ → ℕ → Type 0
-AtLeast p q = q ≤ p
-
-by-earlier : Choice AtMost earliest
+by-earlier : Choice ltb earliest
 unfolding earliest
 by-earlier = record {
-  of-two = earlier;
   alone = λ p. refl;
   next = λ p q qs. refl;
-  one = λ p q. picked-one (ltb q p) p q;
-  left = λ p q. earlier-least p q .0;
-  right = λ p q. earlier-least p q .1;
-  itself = λ p. omega arith;
-  through = λ p q r a b. omega arith;
+  not-itself = λ p. le-ltb p p (omega arith);
+  one-way = λ p q h. le-ltb p q (omega (arith, ltb-true q p h));
+  through = λ p q r h k. le-ltb r p (omega (arith, ltb-false q p h, ltb-false r q k));
 }
 
-by-later : Choice AtLeast latest
+by-later : Choice after latest
 unfolding latest
 by-later = record {
-  of-two = later;
   alone = λ p. refl;
   next = λ p q qs. refl;
-  one = λ p q. picked-one (ltb p q) p q;
-  left = λ p q. later-most p q .0;
-  right = λ p q. later-most p q .1;
-  itself = λ p. omega arith;
-  through = λ p q r a b. omega arith;
+  not-itself = λ p. le-ltb p p (omega arith);
+  one-way = λ p q h. le-ltb q p (omega (arith, ltb-true p q h));
+  through = λ p q r h k. le-ltb p r (omega (arith, ltb-false p q h, ltb-false q r k));
 }
 
--- ---- The places of a centre's epochs are those of its states with a number for an epoch.
-abbrev placesOf : ℕ → List (List ℕ) → List ℕ
-placesOf centre states = numbersIn (epochsOf centre states)
+-- ---- The moments of a centre's states are those of its states with a number for an epoch.
+module _ (edition : Edition) (centre : ℕ) where
+  -- Such a state, by its number, and its moment.
+  abbrev StateAt : List (List ℕ) → ℕ → Type 0
+  StateAt states moment = (i : ℕ) × (i < length states) × OfCentre edition centre (getD states i []) × (momentOf edition (getD states i []) ≡ moment)
 
--- Such a state, by its number, and its place.
-abbrev StateAt : ℕ → List (List ℕ) → ℕ → Type 0
-StateAt centre states place = (i : ℕ) × (i < length states) × OfCentre centre (getD states i []) × (lineOf (epochOf (getD states i [])) ≡ place)
+  is-dated : (s : List ℕ) → OfCentre edition centre s → isDated edition centre s ≡ true
+  is-dated s o = ap₂ (λ (a b : Bool). a && not b) (eq-eqb (centreOf edition s) centre (o .0)) (o .1)
 
--- An epoch that is a number, before others: its place, those of the others, and no more.
-number-in : (e : ℕ) (es : List ℕ) → isNanWord e ≡ false → Among (lineOf e) (numbersIn (e ∷ es))
-unfolding numbersIn
-number-in e es h = subst (λ (b : Bool). Among (lineOf e) (pick b (numbersIn es) (lineOf e ∷ numbersIn es))) (sym h) (inl refl)
+  dated-is : (s : List ℕ) → isDated edition centre s ≡ true → OfCentre edition centre s
+  dated-is s h = go (eqb (centreOf edition s) centre) (isNanWord (epochOf edition s)) refl refl h
+    where
+      go : (a b : Bool) → eqb (centreOf edition s) centre ≡ a → isNanWord (epochOf edition s) ≡ b → a && not b ≡ true → OfCentre edition centre s
+      go true true e f h = absurd (true≢false (sym h))
+      go true false e f h = (eqb-true (centreOf edition s) centre e, f)
+      go false b e f h = absurd (true≢false (sym h))
 
-number-after : (x e : ℕ) (es : List ℕ) → Among x (numbersIn es) → Among x (numbersIn (e ∷ es))
-unfolding numbersIn
-number-after x e es m = go (isNanWord e)
-  where
-    go : (b : Bool) → Among x (pick b (numbersIn es) (lineOf e ∷ numbersIn es))
-    go true = m
-    go false = inr m
+  -- Each such state has its moment there, and each moment is such a state's.
+  state-in : (states : List (List ℕ)) (i : ℕ) → i < length states → OfCentre edition centre (getD states i []) → Among (momentOf edition (getD states i [])) (momentsOf edition centre states)
+  unfolding chosen
+  state-in [] i l o = absurd (omega arith)
+  state-in (s ∷ ss) zero l o =
+      subst (λ (b : Bool). Among (momentOf edition s) (map (momentOf edition) (pick b (s ∷ chosen (isDated edition centre) ss) (chosen (isDated edition centre) ss)))) (sym (is-dated s o)) (inl refl)
+  state-in (s ∷ ss) (suc i) l o = go (isDated edition centre s) (state-in ss i (omega arith) o)
+    where
+      go : (b : Bool) → Among (momentOf edition (getD ss i [])) (momentsOf edition centre ss)
+          → Among (momentOf edition (getD ss i [])) (map (momentOf edition) (pick b (s ∷ chosen (isDated edition centre) ss) (chosen (isDated edition centre) ss)))
+      go true m = inr m
+      go false m = m
 
-number-from : (x e : ℕ) (es : List ℕ) → Among x (numbersIn (e ∷ es)) → ((isNanWord e ≡ false) × (x ≡ lineOf e)) ⊎ Among x (numbersIn es)
-unfolding numbersIn
-number-from x e es m = go (isNanWord e) refl m
-  where
-    go : (b : Bool) → isNanWord e ≡ b → Among x (pick b (numbersIn es) (lineOf e ∷ numbersIn es)) → ((isNanWord e ≡ false) × (x ≡ lineOf e)) ⊎ Among x (numbersIn es)
-    go true h n = inr n
-    go false h (inl a) = inl (h, a)
-    go false h (inr n) = inr n
+  state-from : (states : List (List ℕ)) (x : ℕ) → Among x (momentsOf edition centre states) → StateAt states x
+  unfolding chosen
+  state-from [] x m = absurd m
+  state-from (s ∷ ss) x m = go (isDated edition centre s) refl m (state-from ss x)
+    where
+      behind : StateAt ss x → StateAt (s ∷ ss) x
+      behind (i, l, o, e) = (suc i, omega arith, o, e)
 
--- Each such state has its place there, and each place is such a state's.
-state-in : (centre : ℕ) (states : List (List ℕ)) (i : ℕ) → i < length states → OfCentre centre (getD states i []) → Among (lineOf (epochOf (getD states i []))) (placesOf centre states)
-unfolding epochsOf
-state-in centre [] i l o = absurd (omega arith)
-state-in centre (s ∷ ss) zero l o =
-    subst (λ (b : Bool). Among (lineOf (epochOf s)) (numbersIn (pick b (epochOf s ∷ epochsOf centre ss) (epochsOf centre ss))))
-    (sym (eq-eqb (centreOf s) centre (o .0))) (number-in (epochOf s) (epochsOf centre ss) (o .1))
-state-in centre (s ∷ ss) (suc i) l o = go (eqb (centreOf s) centre) (state-in centre ss i (omega arith) o)
-  where
-    go : (b : Bool) → Among (lineOf (epochOf (getD ss i []))) (placesOf centre ss) → Among (lineOf (epochOf (getD ss i []))) (numbersIn (pick b (epochOf s ∷ epochsOf centre ss) (epochsOf centre ss)))
-    go true m = number-after (lineOf (epochOf (getD ss i []))) (epochOf s) (epochsOf centre ss) m
-    go false m = m
-
-state-from : (centre : ℕ) (states : List (List ℕ)) (x : ℕ) → Among x (placesOf centre states) → StateAt centre states x
-unfolding epochsOf numbersIn
-state-from centre [] x m = absurd m
-state-from centre (s ∷ ss) x m = go (eqb (centreOf s) centre) refl m (state-from centre ss x)
-  where
-    behind : StateAt centre ss x → StateAt centre (s ∷ ss) x
-    behind (i, l, o, e) = (suc i, omega arith, o, e)
-
-    first : centreOf s ≡ centre → ((isNanWord (epochOf s) ≡ false) × (x ≡ lineOf (epochOf s))) ⊎ Among x (placesOf centre ss)
-        → (Among x (placesOf centre ss) → StateAt centre ss x) → StateAt centre (s ∷ ss) x
-    first c (inl a) r = (0, omega arith, (c, a .0), sym (a .1))
-    first c (inr n) r = behind (r n)
-
-    go : (b : Bool) → eqb (centreOf s) centre ≡ b → Among x (numbersIn (pick b (epochOf s ∷ epochsOf centre ss) (epochsOf centre ss)))
-        → (Among x (placesOf centre ss) → StateAt centre ss x) → StateAt centre (s ∷ ss) x
-    go true h n r = first (eqb-true (centreOf s) centre h) (number-from x (epochOf s) (epochsOf centre ss) n) r
-    go false h n r = behind (r n)
+      go : (b : Bool) → isDated edition centre s ≡ b → Among x (map (momentOf edition) (pick b (s ∷ chosen (isDated edition centre) ss) (chosen (isDated edition centre) ss)))
+          → (Among x (momentsOf edition centre ss) → StateAt ss x) → StateAt (s ∷ ss) x
+      go true h (inl a) r = (0, omega arith, dated-is s h, sym a)
+      go true h (inr n) r = behind (r n)
+      go false h n r = behind (r n)
 
 -- ---- The word that is shown at the place of a number: a number's of 64 bits, at that place, and never minus zero.
 record Shown (word place : ℕ) : Type 0 where
@@ -196,12 +161,12 @@ shown-at w h n = go (eqb w minusZero) refl
     go true e = shows 0 (ap (λ (u : ℕ). wordOn (lineOf u)) (eqb-true w minusZero e) ∙ zero-shown) (omega arith) zero-number (λ m. omega arith)
     go false e = let other = eqb-false w minusZero e in shows w (word-back w h other) h n other
 
--- ---- What the word of a chosen epoch says of a centre's states: it is shown at a place that may be chosen beside each of theirs, and that is one of theirs.
-record Told (R : ℕ → ℕ → Type 0) (centre : ℕ) (states : List (List ℕ)) (word : ℕ) : Type 0 where
+-- ---- What the word of a chosen epoch says of a centre's states: it is shown at a place that none of theirs is ahead of, and that is one of theirs.
+record Told (ahead : ℕ → ℕ → Bool) (edition : Edition) (centre : ℕ) (states : List (List ℕ)) (word : ℕ) : Type 0 where
   place : ℕ
   shows : Shown word place
-  beside : (i : ℕ) → i < length states → OfCentre centre (getD states i []) → R place (lineOf (epochOf (getD states i [])))
-  is-one : StateAt centre states place
+  beside : (i : ℕ) → i < length states → OfCentre edition centre (getD states i []) → ahead (momentOf edition (getD states i [])) place ≡ false
+  is-one : StateAt edition centre states place
 
 any-there : (x : ℕ) (ps : List ℕ) → Among x ps → 0 < length ps
 any-there x [] m = absurd m
@@ -213,97 +178,83 @@ unfolding shownBy
 none-there choice [] h = refl
 none-there choice (p ∷ ps) h = absurd (omega (arith, h))
 
-module _ (centre : ℕ) (states : List (List ℕ)) (words : (i : ℕ) → i < length states → epochOf (getD states i []) < 2 ^ 64) where
+module _ (edition : Edition) (centre : ℕ) (states : List (List ℕ)) (words : (i : ℕ) → i < length states → epochOf edition (getD states i []) < 2 ^ 64) where
   abbrev places : List ℕ
-  places = placesOf centre states
+  places = momentsOf edition centre states
 
-  shown-state : (place : ℕ) → StateAt centre states place → Shown (wordOn place) place
-  shown-state place (i, l, o, e) = subst (λ (p : ℕ). Shown (wordOn p) p) e (shown-at (epochOf (getD states i [])) (words i l) (o .1))
+  shown-state : (place : ℕ) → StateAt edition centre states place → Shown (wordOn place) place
+  shown-state place (i, l, o, e) = subst (λ (p : ℕ). Shown (wordOn p) p) e (shown-at (epochOf edition (getD states i [])) (words i l) (o .1))
 
-  told : (R : ℕ → ℕ → Type 0) (choice : ℕ → List ℕ → ℕ) → Choice R choice → 0 < length places → Told R centre states (shownBy choice places)
+  told : (ahead : ℕ → ℕ → Bool) (choice : ℕ → List ℕ → ℕ) → Choice ahead choice → 0 < length places → Told ahead edition centre states (shownBy choice places)
   unfolding shownBy
-  told R choice by l = go places refl l
+  told ahead choice by l = go places refl l
     where
-      go : (ps : List ℕ) → places ≡ ps → 0 < length ps → Told R centre states (shownBy choice ps)
+      go : (ps : List ℕ) → places ≡ ps → 0 < length ps → Told ahead edition centre states (shownBy choice ps)
       go [] e l = absurd (omega arith)
       go (p ∷ ps) e l =
-          let from = state-from centre states (choice p ps) (subst (Among (choice p ps)) (sym e) (chosen-among R choice by p ps)) in
+          let b = best ahead choice by p ps in
+          let from = state-from edition centre states (choice p ps) (subst (Among (choice p ps)) (sym e) (b .0)) in
           record {
             place = choice p ps;
             shows = shown-state (choice p ps) from;
-            beside = λ i k o. chosen-first R choice by p ps (lineOf (epochOf (getD states i []))) (subst (Among (lineOf (epochOf (getD states i [])))) e (state-in centre states i k o));
+            beside = λ i k o. b .1 (momentOf edition (getD states i [])) (subst (Among (momentOf edition (getD states i []))) e (state-in edition centre states i k o));
             is-one = from;
           }
 
   -- A state with a number for an epoch is there, and so an epoch is chosen.
-  told-beside : (R : ℕ → ℕ → Type 0) (choice : ℕ → List ℕ → ℕ) → Choice R choice → (i : ℕ) → i < length states → OfCentre centre (getD states i []) → Told R centre states (shownBy choice places)
-  told-beside R choice by i l o = told R choice by (any-there (lineOf (epochOf (getD states i []))) places (state-in centre states i l o))
+  told-beside : (ahead : ℕ → ℕ → Bool) (choice : ℕ → List ℕ → ℕ) → Choice ahead choice → (i : ℕ) → i < length states → OfCentre edition centre (getD states i []) → Told ahead edition centre states (shownBy choice places)
+  told-beside ahead choice by i l o = told ahead choice by (any-there (momentOf edition (getD states i [])) places (state-in edition centre states i l o))
 
   -- By doubles: one state's epoch is equal to the one shown.
-  one-equal : (R : ℕ → ℕ → Type 0) (word : ℕ) → Told R centre states word → (i : ℕ) × (i < length states) × OfCentre centre (getD states i [])
-      × (eq (ofBits binary64 (epochOf (getD states i []))) (ofBits binary64 word) ≡ true)
-  one-equal R word t = go (t .is-one)
-    where
-      go : StateAt centre states (t .place) → (i : ℕ) × (i < length states) × OfCentre centre (getD states i [])
-          × (eq (ofBits binary64 (epochOf (getD states i []))) (ofBits binary64 word) ≡ true)
-      go (i, l, o, e) =
-          let w = epochOf (getD states i []) in
-          (i, l, o, same-place w word (words i l) (t .shows .fits) (o .1) (t .shows .is-number) ∙ eq-eqb (lineOf w) (lineOf word) (e ∙ sym (t .shows .at-place)))
+  one-equal : (ahead : ℕ → ℕ → Bool) (word : ℕ) → Told ahead edition centre states word → (i : ℕ) × (i < length states) × OfCentre edition centre (getD states i [])
+      × (eq (ofBits binary64 (epochOf edition (getD states i []))) (ofBits binary64 word) ≡ true)
+  one-equal ahead word t =
+      let s = t .is-one in
+      let w = epochOf edition (getD states (s .0) []) in
+      (s .0, s .1, s .2, same-place w word (words (s .0) (s .1)) (t .shows .fits) (s .2 .1) (t .shows .is-number) ∙ eq-eqb (lineOf w) (lineOf word) (s .3 ∙ sym (t .shows .at-place)))
 
-  no-minus-zero : (R : ℕ → ℕ → Type 0) (choice : ℕ → List ℕ → ℕ) → Choice R choice → shownBy choice places ≡ minusZero → ⊥
-  no-minus-zero R choice by m = elim (decLt 0 (length places)) [
-    | yes l ↦ told R choice by l .shows .not-minus m
+  no-minus-zero : (ahead : ℕ → ℕ → Bool) (choice : ℕ → List ℕ → ℕ) → Choice ahead choice → shownBy choice places ≡ minusZero → ⊥
+  no-minus-zero ahead choice by m = elim (decLt 0 (length places)) [
+    | yes l ↦ told ahead choice by l .shows .not-minus m
     | no g ↦ let z = none-there choice places (omega arith) in omega (arith, z, m)
   ]
 
   -- None is before the earliest, and none after the latest.
-  not-before : (i : ℕ) → i < length states → OfCentre centre (getD states i []) → lt (ofBits binary64 (epochOf (getD states i []))) (ofBits binary64 (shownBy earliest places)) ≡ false
+  not-before : (i : ℕ) → i < length states → OfCentre edition centre (getD states i []) → lt (ofBits binary64 (epochOf edition (getD states i []))) (ofBits binary64 (shownBy earliest places)) ≡ false
   not-before i l o =
-      let w = epochOf (getD states i []) in
+      let w = epochOf edition (getD states i []) in
       let word = shownBy earliest places in
-      let t = told-beside AtMost earliest by-earlier i l o in
-      in-order w word (words i l) (t .shows .fits) (o .1) (t .shows .is-number) ∙ le-ltb (lineOf w) (lineOf word) (omega (arith, t .beside i l o, t .shows .at-place))
+      let t = told-beside ltb earliest by-earlier i l o in
+      in-order w word (words i l) (t .shows .fits) (o .1) (t .shows .is-number) ∙ ap (ltb (lineOf w)) (t .shows .at-place) ∙ t .beside i l o
 
-  not-after : (i : ℕ) → i < length states → OfCentre centre (getD states i []) → lt (ofBits binary64 (shownBy latest places)) (ofBits binary64 (epochOf (getD states i []))) ≡ false
+  not-after : (i : ℕ) → i < length states → OfCentre edition centre (getD states i []) → lt (ofBits binary64 (shownBy latest places)) (ofBits binary64 (epochOf edition (getD states i []))) ≡ false
   not-after i l o =
-      let w = epochOf (getD states i []) in
+      let w = epochOf edition (getD states i []) in
       let word = shownBy latest places in
-      let t = told-beside AtLeast latest by-later i l o in
-      in-order word w (t .shows .fits) (words i l) (t .shows .is-number) (o .1) ∙ le-ltb (lineOf word) (lineOf w) (omega (arith, t .beside i l o, t .shows .at-place))
+      let t = told-beside after latest by-later i l o in
+      in-order word w (t .shows .fits) (words i l) (t .shows .is-number) (o .1) ∙ ap (after (lineOf w)) (t .shows .at-place) ∙ t .beside i l o
 
 -- ---- The two counts, a state at a time.
-spread : {A B : Type 0} (f : A → B) (a : Bool) (x y : A) → f (pick a x y) ≡ pick a (f x) (f y)
-spread f true x y = refl
-spread f false x y = refl
-
-one-counted : (a b : Bool) (p n m : ℕ) (ps : List ℕ) (z : ℕ) → length ps ≡ n → z ≡ m →
-    (pick a (length (pick b ps (p ∷ ps))) (length ps) ≡ pick (a && not b) (1 + n) n) × (pick a (pick b (1 + z) z) z ≡ pick (a && b) (1 + m) m)
-one-counted true true p n m ps z e f = (e, omega arith)
-one-counted true false p n m ps z e f = (omega arith, f)
-one-counted false b p n m ps z e f = (e, f)
-
-counted : (centre : ℕ) (states : List (List ℕ)) →
-    (length (placesOf centre states) ≡ howMany (λ s. eqb (centreOf s) centre && not (isNanWord (epochOf s))) states)
-    × (nansIn (epochsOf centre states) ≡ howMany (λ s. eqb (centreOf s) centre && isNanWord (epochOf s)) states)
-unfolding epochsOf numbersIn nansIn howMany
-counted centre [] = (refl, refl)
-counted centre (s ∷ ss) =
-    let a = eqb (centreOf s) centre in
-    let b = isNanWord (epochOf s) in
-    let es = epochsOf centre ss in
-    let rest = counted centre ss in
-    let one = one-counted a b (lineOf (epochOf s)) _ _ (numbersIn es) (nansIn es) (rest .0) (rest .1) in
-    (spread (λ (l : List ℕ). length (numbersIn l)) a (epochOf s ∷ es) es ∙ one .0, spread nansIn a (epochOf s ∷ es) es ∙ one .1)
+counted : (test : List ℕ → Bool) (states : List (List ℕ)) → length (chosen test states) ≡ howMany test states
+unfolding chosen howMany
+counted test [] = refl
+counted test (s ∷ ss) = go (test s) (counted test ss)
+  where
+    go : (b : Bool) → length (chosen test ss) ≡ howMany test ss → length (pick b (s ∷ chosen test ss) (chosen test ss)) ≡ pick b (1 + howMany test ss) (howMany test ss)
+    go true e = omega (arith, e)
+    go false e = e
 
 pub tells-true : TellsTrue
-unfolding entryBy
-tells-true centre states words = record {
-  numbers = counted centre states .0;
-  nans = counted centre states .1;
-  none-earlier = not-before centre states words;
-  none-later = not-after centre states words;
-  one-earliest = λ l. one-equal centre states words AtMost (shownBy earliest (placesOf centre states)) (told centre states words AtMost earliest by-earlier l);
-  one-latest = λ l. one-equal centre states words AtLeast (shownBy latest (placesOf centre states)) (told centre states words AtLeast latest by-later l);
-  never-minus-zero = (no-minus-zero centre states words AtMost earliest by-earlier, no-minus-zero centre states words AtLeast latest by-later);
-  none-at-all = λ h. (none-there earliest (placesOf centre states) h, none-there latest (placesOf centre states) h);
-}
+unfolding centreEntry
+tells-true edition centre states words =
+    let moments = momentsOf edition centre states in
+    record {
+      numbers = length-map (chosen (isDated edition centre) states) (momentOf edition) ∙ counted (isDated edition centre) states;
+      nans = counted (isUndated edition centre) states;
+      none-earlier = not-before edition centre states words;
+      none-later = not-after edition centre states words;
+      one-earliest = λ l. one-equal edition centre states words ltb (shownBy earliest moments) (told edition centre states words ltb earliest by-earlier l);
+      one-latest = λ l. one-equal edition centre states words after (shownBy latest moments) (told edition centre states words after latest by-later l);
+      never-minus-zero = (no-minus-zero edition centre states words ltb earliest by-earlier, no-minus-zero edition centre states words after latest by-later);
+      none-at-all = λ h. (none-there earliest moments h, none-there latest moments h);
+    }

@@ -1,16 +1,15 @@
-pub mod EntryLaws
+-- Laws of the refusals and of changes, of the states in use, of entries and of lists of them.
 pub mod RefusalLaws
-pub mod PartLaws
-pub mod ChangeLaws
-pub mod WordLaws
 pub mod OrderLaws
+pub mod ChangeLaws
 pub mod StateLaws
+pub mod EntryLaws
+pub mod ExtremeLaws
 pub mod AnewLaws
-pub mod AskedLaws
+pub mod BackLaws
 pub mod RightLaws
+pub mod WordLaws
 pub mod OneListLaws
 pub mod SummaryLaws
-pub mod ExtremeLaws
-pub mod BackLaws
 pub mod OneAnswers
 pub mod PromiseLaws

@@ -14,11 +14,13 @@ use borrow.Fn.Kinds.{PK, RK, Out, Dens, resT, endedOf}
 use denote.Triple.Entry.{Args, Res}
 use denote.Triple.Clauses.{Ended, Clauses, Lasts, atExit}
 use lib.ListN.{length, set}
+use Rattle.files_formats.specs.Rows.{entryWidth}
+use Rattle.files_summary.specs.declared.entries.Roster.{Roster}
 use Rattle.files_summary.specs.declared.entries.Summary.{Summary}
 use Rattle.files_summary.specs.declared.changes.Change.{Change}
-use Rattle.files_summary.specs.Changes.{entryWidth, putEntry, appendBeside, appendRunBeside, withdrawBeside, withdrawRunBeside, settledBy}
-use Rattle.files_summary.specs.Kept.{Asked, append, withdraw, Kept, changeBy, Answered, Afresh}
-use Rattle.files_summary.proofs.AskedLaws.{append-number, withdraw-number}
+use Rattle.files_summary.specs.Changes.{oneEach, Asked, append, withdraw, changeBeside, runBeside, settledBy, putEntry}
+use Rattle.files_summary.specs.Kept.{Kept, counting, changeBy, Answered, Afresh}
+use Rattle.files_summary.proofs.ChangeLaws.{number-is}
 use Rattle.files_summary.proofs.SummaryLaws.{summary-right}
 use Rattle.files_summary.proofs.OneAnswers.{three}
 use Rattle.files_summary.proofs.words.summary.Kinds as summary-kinds
@@ -42,65 +44,50 @@ PromisesOf M T clauses so =
     (g : clauses 𝓤 H A mem run κs a .ghost) (x : Res (T .signature) κs) (v : Lasts T κs a) →
     ent 𝓤 (clauses 𝓤 H A mem run κs a .ensures g x (atExit T κs a v)) (fact 𝓤 (so κs a x v))
 
-abbrev keeping : {A : Type 0} → List ℕ → ℕ → List A → Kept A
-keeping run count list = record { run = run; count = count; list = list }
+abbrev keeping : {A : Type 0} → List ℕ → Roster → List A → Kept A
+keeping run roster list = record { run = run; roster = roster; list = list }
 
 pub summary-promise : Promises 2 summary-kinds.ps summary-kinds.r summary-reads.Post (λ κs a x v.
     let run = a .1 .0 .now in
-    let count = a .1 .1 .0 in
-    Afresh (a .1 .1 .1 .0) x (keeping run count (a .0 .now)) (keeping run count (v .0)))
+    let roster = a .1 .1 .0 in
+    Afresh x (keeping run roster (a .0 .now)) (keeping run roster (v .0)))
 summary-promise κs a x v p =
     let run = a .1 .0 .now in
-    let count = a .1 .1 .0 in
-    let s = summary-right (a .1 .1 .1 .0) (keeping run count (a .0 .now)) in
+    let roster = a .1 .1 .0 in
+    let s = summary-right (keeping run roster (a .0 .now)) in
     record {
       told = p .0;
       right = λ e. p .1 ∙ s .right (sym (p .0) ∙ e);
-      stays = λ h. ap (keeping run count) (p .1) ∙ s .stays (λ z. h (p .0 ∙ z));
+      stays = λ h. ap (keeping run roster) (p .1) ∙ s .stays (λ z. h (p .0 ∙ z));
     }
 
 -- ---- The calls that change something, over words and over structs.
-module _ {A : Type 0} (width : ℕ) (store : List A → ℕ → Summary → List A) (centres : ℕ) (k : Kept A) {change : Change} {run : List ℕ} {list : List A} where
-  appends : (state : List ℕ) →
-      change ≡ appendBeside width (length (k .list)) state (k .run) (k .count) centres →
-      run ≡ appendRunBeside width (length (k .list)) state (k .run) (k .count) centres →
-      list ≡ settledBy store (k .list) (appendBeside width (length (k .list)) state (k .run) (k .count) centres) →
-      Answered width store centres (append state) k change run list
-  unfolding changeBy
-  appends state p q r =
-      record {
-        number = ap (λ (c : Change). c .number) p ∙ append-number width centres k state;
-        kept = λ i. keeping (q i) (p i .count) (r i);
-      }
-
-  withdraws : (which : ℕ) →
-      change ≡ withdrawBeside width (length (k .list)) which (k .run) (k .count) centres →
-      run ≡ withdrawRunBeside width (length (k .list)) which (k .run) (k .count) centres →
-      list ≡ settledBy store (k .list) (withdrawBeside width (length (k .list)) which (k .run) (k .count) centres) →
-      Answered width store centres (withdraw which) k change run list
-  unfolding changeBy
-  withdraws which p q r =
-      record {
-        number = ap (λ (c : Change). c .number) p ∙ withdraw-number width centres k which;
-        kept = λ i. keeping (q i) (p i .count) (r i);
-      }
+answers : {A : Type 0} (each : ℕ) (store : List A → ℕ → Summary → List A) (asked : Asked) (k : Kept A) {change : Change} {run : List ℕ} {list : List A} →
+    change ≡ changeBeside each (length (k .list)) asked (k .run) (k .roster) →
+    run ≡ runBeside each (length (k .list)) asked (k .run) (k .roster) →
+    list ≡ settledBy store (k .list) (changeBeside each (length (k .list)) asked (k .run) (k .roster)) →
+    Answered each store asked k change run list
+unfolding changeBy
+answers each store asked k p q r =
+    record {
+      number = ap (λ (c : Change). c .number) p ∙ number-is asked (k .run) (k .roster) (oneEach each (length (k .list)) (k .roster .centres));
+      kept = λ i. keeping (q i) (counting (k .roster) (p i .count)) (r i);
+    }
 
 pub append-promise : Promises 3 append-kinds.ps append-kinds.r append-reads.Post (λ κs a x v.
-    Answered entryWidth putEntry (a .1 .1 .1 .1 .0) (append (a .1 .0 .now)) (keeping (a .1 .1 .0 .now) (a .1 .1 .1 .0) (a .0 .now)) x (v .1 .1 .0) (v .0))
-append-promise κs a x v p =
-    appends entryWidth putEntry (a .1 .1 .1 .1 .0) (keeping (a .1 .1 .0 .now) (a .1 .1 .1 .0) (a .0 .now)) (a .1 .0 .now) (p .0) (p .1 .0) (p .1 .1)
+    Answered entryWidth putEntry (append (a .1 .0 .now)) (keeping (a .1 .1 .0 .now) (a .1 .1 .1 .0) (a .0 .now)) x (v .1 .1 .0) (v .0))
+append-promise κs a x v p = answers entryWidth putEntry (append (a .1 .0 .now)) (keeping (a .1 .1 .0 .now) (a .1 .1 .1 .0) (a .0 .now)) (p .0) (p .1 .0) (p .1 .1)
 
 pub withdraw-promise : Promises 2 withdraw-kinds.ps withdraw-kinds.r withdraw-reads.Post (λ κs a x v.
-    Answered entryWidth putEntry (a .1 .1 .1 .1 .0) (withdraw (a .1 .0)) (keeping (a .1 .1 .0 .now) (a .1 .1 .1 .0) (a .0 .now)) x (v .1 .1 .0) (v .0))
-withdraw-promise κs a x v p =
-    withdraws entryWidth putEntry (a .1 .1 .1 .1 .0) (keeping (a .1 .1 .0 .now) (a .1 .1 .1 .0) (a .0 .now)) (a .1 .0) (p .0) (p .1 .0) (p .1 .1)
+    Answered entryWidth putEntry (withdraw (a .1 .0)) (keeping (a .1 .1 .0 .now) (a .1 .1 .1 .0) (a .0 .now)) x (v .1 .1 .0) (v .0))
+withdraw-promise κs a x v p = answers entryWidth putEntry (withdraw (a .1 .0)) (keeping (a .1 .1 .0 .now) (a .1 .1 .1 .0) (a .0 .now)) (p .0) (p .1 .0) (p .1 .1)
 
 pub listed-append-promise : {M : Type 1} → PromisesOf M listed-append.ended listed-append.clauses (λ κs a x v.
-    Answered 1 set (a .1 .1 .1 .1 .0) (append (a .1 .0 .now)) (keeping (a .1 .1 .0 .now) (a .1 .1 .1 .0) (a .0 .now)) x (v .1 .1 .0) (v .0))
+    Answered 1 set (append (a .1 .0 .now)) (keeping (a .1 .1 .0 .now) (a .1 .1 .1 .0) (a .0 .now)) x (v .1 .1 .0) (v .0))
 listed-append-promise κs a 𝓤 H A mem run g x v =
-    three 𝓤 _ _ _ _ (appends 1 set (a .1 .1 .1 .1 .0) (keeping (a .1 .1 .0 .now) (a .1 .1 .1 .0) (a .0 .now)) (a .1 .0 .now))
+    three 𝓤 _ _ _ _ (answers 1 set (append (a .1 .0 .now)) (keeping (a .1 .1 .0 .now) (a .1 .1 .1 .0) (a .0 .now)))
 
 pub listed-withdraw-promise : {M : Type 1} → PromisesOf M listed-withdraw.ended listed-withdraw.clauses (λ κs a x v.
-    Answered 1 set (a .1 .1 .1 .1 .0) (withdraw (a .1 .0)) (keeping (a .1 .1 .0 .now) (a .1 .1 .1 .0) (a .0 .now)) x (v .1 .1 .0) (v .0))
+    Answered 1 set (withdraw (a .1 .0)) (keeping (a .1 .1 .0 .now) (a .1 .1 .1 .0) (a .0 .now)) x (v .1 .1 .0) (v .0))
 listed-withdraw-promise κs a 𝓤 H A mem run g x v =
-    three 𝓤 _ _ _ _ (withdraws 1 set (a .1 .1 .1 .1 .0) (keeping (a .1 .1 .0 .now) (a .1 .1 .1 .0) (a .0 .now)) (a .1 .0))
+    three 𝓤 _ _ _ _ (answers 1 set (withdraw (a .1 .0)) (keeping (a .1 .1 .0 .now) (a .1 .1 .1 .0) (a .0 .now)))

@@ -1,45 +1,65 @@
 -- Document 02, T-02: "The morning screen lists, for each centre, how many states there are and the earliest and latest epoch." "A centre with no epoch shows +0
 -- twice. States with a NaN epoch are in a count of their own only; infinite epochs count; minus zero and zero are one epoch, shown as zero."
-use Prim.Native.Nat.{ℕ, zero, suc, _+_, _*_, _-_, _^_, _≤_}
-use mathlib.Core.List.{List, [], _∷_}
+use Prim.Native.Nat.{ℕ, _+_, _*_, _-_, _^_, _≤_}
+use mathlib.Core.Bool.{Bool, not, _&&_}
+use mathlib.Core.List.{List, [], _∷_, map}
 use lib.Dec.{eqb, ltb}
-use lib.ListN.{length, getD, take, drop}
+use lib.ListN.{length, getD}
 use Rattle.bits.specs.Choice.{pick}
 use Rattle.bits.specs.Line.{isNanWord, lineOf, wordOn}
-use Rattle.files_sections.specs.declared.sections.Section.the-variants.{States}
-use Rattle.files_sections.specs.Sections.{limitOf, widthOf, stateCentre, stateEpoch}
+use Rattle.files_records.specs.Records.{recordsOf}
+use Rattle.files_formats.specs.declared.elements.Edition.{Edition}
+use Rattle.files_formats.specs.declared.elements.Section.the-variants.{States}
+use Rattle.files_formats.specs.declared.elements.Column.the-variants as at
+use Rattle.files_formats.specs.Elements.{limitOf, widthOf, columnOf}
+use Rattle.files_summary.specs.declared.entries.Roster.{Roster}
 use Rattle.files_summary.specs.declared.entries.Summary.{Summary}
 use Rattle.files_summary.specs.declared.entries.Tally.{Tally}
 
--- ---- The states in use, each with its words: the first records of a run that has room for more.
-unfoldable pub inUse : (run : List ℕ) (count : ℕ) → List (List ℕ)
-inUse run zero = []
-inUse run (suc n) = take (widthOf States) run ∷ inUse (drop (widthOf States) run) n
+-- ---- A roster: the edition of the states of a run, how many are in use, and how many centres there are. The states in use, each with its words, are the first
+-- records of a run that has room for more.
+abbrev pub rosterOf : Edition → (count centres : ℕ) → Roster
+rosterOf edition count centres = record { edition = edition; count = count; centres = centres }
+
+abbrev pub stateWidth : Edition → ℕ
+stateWidth edition = widthOf edition States
+
+abbrev pub inUse : Roster → (run : List ℕ) → List (List ℕ)
+inUse roster run = recordsOf (stateWidth (roster .edition)) run (roster .count)
 
 -- What the code's inner steps need: a run has so many states, and no more than a section may have.
-abbrev pub Holds : (run : List ℕ) (count : ℕ) → Type 0
-Holds run count = (count ≤ limitOf States) × (count * widthOf States ≤ length run)
+abbrev pub Holds : Edition → (run : List ℕ) (count : ℕ) → Type 0
+Holds edition run count = (count ≤ limitOf States) × (count * stateWidth edition ≤ length run)
 
-abbrev pub centreOf : (state : List ℕ) → ℕ
-centreOf state = getD state stateCentre 0
+abbrev pub centreOf : Edition → (state : List ℕ) → ℕ
+centreOf edition state = getD state (columnOf edition at.Centre) 0
 
-abbrev pub epochOf : (state : List ℕ) → ℕ
-epochOf state = getD state stateEpoch 0
+abbrev pub epochOf : Edition → (state : List ℕ) → ℕ
+epochOf edition state = getD state (columnOf edition at.Epoch) 0
 
--- ---- The epochs of a centre's states. Those that are numbers, by their places on the line of doubles, where the zeros are one; and how many are not.
-unfoldable pub epochsOf : (centre : ℕ) (states : List (List ℕ)) → List ℕ
-epochsOf centre [] = []
-epochsOf centre (s ∷ ss) = pick (eqb (centreOf s) centre) (epochOf s ∷ epochsOf centre ss) (epochsOf centre ss)
+-- ---- The moment of a state's epoch: one whole number, by which epochs come one after another. It is the epoch's place on the line of doubles, where the
+-- zeros are one.
+abbrev pub momentOf : Edition → (state : List ℕ) → ℕ
+momentOf edition state = lineOf (epochOf edition state)
 
-unfoldable pub numbersIn : (epochs : List ℕ) → List ℕ
-numbersIn [] = []
-numbersIn (e ∷ es) = pick (isNanWord e) (numbersIn es) (lineOf e ∷ numbersIn es)
+-- A centre's states whose epoch is a number, and those whose epoch is not. The moments of the one, and how many the others are.
+abbrev pub isDated : Edition → (centre : ℕ) (state : List ℕ) → Bool
+isDated edition centre s = eqb (centreOf edition s) centre && not (isNanWord (epochOf edition s))
 
-unfoldable pub nansIn : (epochs : List ℕ) → ℕ
-nansIn [] = 0
-nansIn (e ∷ es) = pick (isNanWord e) (1 + nansIn es) (nansIn es)
+abbrev pub isUndated : Edition → (centre : ℕ) (state : List ℕ) → Bool
+isUndated edition centre s = eqb (centreOf edition s) centre && isNanWord (epochOf edition s)
 
--- ---- The earliest and the latest of some places, of which the first is given; shown as words, +0 where there is none.
+unfoldable pub chosen : (List ℕ → Bool) → (states : List (List ℕ)) → List (List ℕ)
+chosen test [] = []
+chosen test (s ∷ ss) = pick (test s) (s ∷ chosen test ss) (chosen test ss)
+
+abbrev pub momentsOf : Edition → (centre : ℕ) (states : List (List ℕ)) → List ℕ
+momentsOf edition centre states = map (momentOf edition) (chosen (isDated edition centre) states)
+
+abbrev pub nansOf : Edition → (centre : ℕ) (states : List (List ℕ)) → ℕ
+nansOf edition centre states = length (chosen (isUndated edition centre) states)
+
+-- ---- The earliest and the latest of some moments, of which the first is given; shown as words, +0 where there is none.
 abbrev pub earlier : ℕ → ℕ → ℕ
 earlier a b = pick (ltb b a) b a
 
@@ -54,23 +74,18 @@ unfoldable pub latest : ℕ → List ℕ → ℕ
 latest p [] = p
 latest p (q ∷ qs) = latest (later p q) qs
 
-unfoldable pub shownBy : (ℕ → List ℕ → ℕ) → (places : List ℕ) → ℕ
+unfoldable pub shownBy : (ℕ → List ℕ → ℕ) → (moments : List ℕ) → ℕ
 shownBy choice [] = 0
 shownBy choice (p ∷ ps) = wordOn (choice p ps)
 
--- ---- The entry of a centre: by its epochs; worked out from the states in use; that of no states; and the four words of an entry.
-unfoldable pub entryBy : (epochs : List ℕ) → Summary
-unfolding numbersIn nansIn earliest latest shownBy
-entryBy epochs =
-    record {
-      states = length (numbersIn epochs);
-      nans = nansIn epochs;
-      earliest = shownBy earliest (numbersIn epochs);
-      latest = shownBy latest (numbersIn epochs);
-    }
+-- ---- The entry of a centre: by the moments of its states and its NaNs; worked out from the states in use; that of no states; and the words of an entry.
+unfoldable pub entryBy : (moments : List ℕ) (nans : ℕ) → Summary
+unfolding earliest latest shownBy
+entryBy moments nans = record { states = length moments; nans = nans; earliest = shownBy earliest moments; latest = shownBy latest moments }
 
-abbrev pub entryOf : (centre : ℕ) (states : List (List ℕ)) → Summary
-entryOf centre states = entryBy (epochsOf centre states)
+unfoldable pub centreEntry : Edition → (centre : ℕ) (states : List (List ℕ)) → Summary
+unfolding entryBy chosen
+centreEntry edition centre states = entryBy (momentsOf edition centre states) (nansOf edition centre states)
 
 abbrev pub noEntry : Summary
 noEntry = record { states = 0; nans = 0; earliest = 0; latest = 0 }
@@ -78,26 +93,26 @@ noEntry = record { states = 0; nans = 0; earliest = 0; latest = 0 }
 abbrev pub entryWords : Summary → List ℕ
 entryWords s = s .states ∷ s .nans ∷ s .earliest ∷ s .latest ∷ []
 
--- ---- What the code gathers on its way over the states: the two counts, and the earliest and latest place so far. It begins with an earliest
--- after all places, and a latest before them.
-abbrev pub nothing : Tally
-nothing = record { states = 0; nans = 0; first = 2 ^ 64 - 1; last = 0 }
+-- ---- What the code gathers on its way over the states: the two counts, and the earliest and latest moment so far. It begins with an earliest
+-- after all moments, and a latest before them. The columns of the centre and of the epoch are given.
+abbrev pub noTally : Tally
+noTally = record { states = 0; nans = 0; first = 2 ^ 64 - 1; last = 0 }
 
 abbrev pub withNan : Tally → Tally
 withNan t = record { states = t .states; nans = t .nans + 1; first = t .first; last = t .last }
 
-abbrev pub withPlace : Tally → ℕ → Tally
-withPlace t p = record { states = t .states + 1; nans = t .nans; first = earlier (t .first) p; last = later (t .last) p }
+abbrev pub withMoment : Tally → ℕ → Tally
+withMoment t p = record { states = t .states + 1; nans = t .nans; first = earlier (t .first) p; last = later (t .last) p }
 
 abbrev pub withEpoch : Tally → ℕ → Tally
-withEpoch t e = pick (isNanWord e) (withNan t) (withPlace t (lineOf e))
+withEpoch t e = pick (isNanWord e) (withNan t) (withMoment t (lineOf e))
 
 abbrev pub withState : Tally → (centre its epoch : ℕ) → Tally
 withState t centre its e = pick (eqb its centre) (withEpoch t e) t
 
-unfoldable pub gathered : Tally → (epochs : List ℕ) → Tally
-gathered t [] = t
-gathered t (e ∷ es) = gathered (withEpoch t e) es
+unfoldable pub gathered : (its epoch centre : ℕ) → Tally → (states : List (List ℕ)) → Tally
+gathered its epoch centre t [] = t
+gathered its epoch centre t (s ∷ ss) = gathered its epoch centre (withState t centre (getD s its 0) (getD s epoch 0)) ss
 
 -- The entry of what was gathered.
 abbrev pub shown : Tally → Summary

@@ -1,13 +1,27 @@
 // The entry of a centre, worked out from the states in use.
 ghost use mathlib.Core.Path.{_≡_};
-ghost use Prim.Native.Nat.{_+_, _^_, _<_};
-ghost use Rattle.files_summary.specs.Entries.{Holds, inUse, epochsOf, earlier, later, nothing, withEpoch, withState, gathered, shown, entryOf};
+ghost use Prim.Native.Nat.{_+_, _*_, _^_, _<_, _≤_};
+ghost use lib.ListN.{length};
+ghost use Rattle.bits.specs.Choice.{pick};
+ghost use Rattle.files_records.specs.Records.{recordsOf};
+ghost use Rattle.files_formats.specs.declared.elements.Section.the-variants.{States};
+ghost use Rattle.files_formats.specs.Elements.{limitOf};
+ghost use Rattle.files_summary.specs.Entries.{stateWidth, Holds, earlier, later, noTally, withEpoch, withState, gathered, shown, centreEntry};
 use bits::words::is_nan_word;
 use bits::words::line_of;
 use bits::words::word_on;
-use files_sections::STATE_CENTRE;
-use files_sections::STATE_EPOCH;
-use files_sections::STATE_WORDS;
+use files_formats::Column;
+use files_formats::Edition;
+use files_formats::Section;
+use files_formats::column_at;
+use files_formats::width;
+
+// The states in use of a run: their edition, how many they are, and how many centres there are.
+pub struct Roster {
+    pub edition: Edition,
+    pub count: u64,
+    pub centres: u64,
+}
 
 // A centre's states at a glance: how many have an epoch that is a number, how many a NaN, and the words of the earliest and the latest epoch.
 pub struct Summary {
@@ -17,7 +31,7 @@ pub struct Summary {
     pub latest: u64,
 }
 
-// What is gathered on the way: the two counts, and the earliest and the latest place on the line of doubles.
+// What is gathered on the way: the two counts, and the earliest and the latest moment.
 pub struct Tally {
     pub states: u64,
     pub nans: u64,
@@ -25,18 +39,25 @@ pub struct Tally {
     pub last: u64,
 }
 
-// The earlier of two places.
+// One of two, by a test.
+fn one_of(test: bool, a: u64, b: u64) -> u64
+    ensures { λ r. ⌜ r ≡ pick test a b ⌝ }
+{
+    if test { a } else { b }
+}
+
+// The earlier of two moments.
 fn earlier(a: u64, b: u64) -> u64
     ensures { λ r. ⌜ r ≡ earlier a b ⌝ }
 {
-    if b < a { b } else { a }
+    one_of(b < a, b, a)
 }
 
-// The later of two places.
+// The later of two moments.
 fn later(a: u64, b: u64) -> u64
     ensures { λ r. ⌜ r ≡ later a b ⌝ }
 {
-    if a < b { b } else { a }
+    one_of(a < b, b, a)
 }
 
 // A tally with one epoch more.
@@ -72,10 +93,10 @@ fn with_state(tally: Tally, centre: u64, its: u64, epoch: u64) -> Tally
     with_epoch(tally, epoch)
 }
 
-// The tally of a centre over the states in use.
-fn gather(states: &[u64], count: usize, centre: u64) -> Tally
-    requires { ⌜ Holds (now states) count ⌝ }
-    ensures { λ r. ⌜ r ≡ gathered nothing (epochsOf centre (inUse (now (states .entry)) count)) ⌝ }
+// The tally of a centre over so many states, each of so many words, by the columns of the centre's number and of the epoch.
+fn gather(states: &[u64], wide: usize, its: usize, epoch: usize, count: usize, centre: u64) -> Tally
+    requires { ⌜ (its < wide) × (epoch < wide) × (count ≤ limitOf States) × (count * wide ≤ length (now states)) ⌝ }
+    ensures { λ r. ⌜ r ≡ gathered its epoch centre noTally (recordsOf wide (now (states .entry)) count) ⌝ }
 {
     let mut tally = Tally {
         states: 0,
@@ -85,13 +106,8 @@ fn gather(states: &[u64], count: usize, centre: u64) -> Tally
     };
     let mut left = count;
     while 0 < left {
-        let at = (count - left) * STATE_WORDS as usize;
-        tally = with_state(
-            tally,
-            centre,
-            states[at + STATE_CENTRE],
-            states[at + STATE_EPOCH],
-        );
+        let at = (count - left) * wide;
+        tally = with_state(tally, centre, states[at + its], states[at + epoch]);
         left -= 1;
     }
     tally
@@ -118,9 +134,12 @@ fn shown(tally: Tally) -> Summary
 }
 
 // The entry of a centre, worked out from so many states of a run.
-pub fn entry_of(states: &[u64], count: usize, centre: u64) -> Summary
-    requires { ⌜ Holds (now states) count ⌝ }
-    ensures { λ r. ⌜ r ≡ entryOf centre (inUse (now (states .entry)) count) ⌝ }
+pub fn entry_of(states: &[u64], edition: Edition, count: usize, centre: u64) -> Summary
+    requires { ⌜ Holds edition (now states) count ⌝ }
+    ensures { λ r. ⌜ r ≡ centreEntry edition centre (recordsOf (stateWidth edition) (now (states .entry)) count) ⌝ }
 {
-    shown(gather(states, count, centre))
+    let wide = width(edition, Section::States);
+    let its = column_at(edition, Column::Centre);
+    let epoch = column_at(edition, Column::Epoch);
+    shown(gather(states, wide, its, epoch, count, centre))
 }

@@ -5,4 +5,5 @@ pub mod lists;
 pub mod words;
 
 pub use changes::Change;
+pub use entries::Roster;
 pub use entries::Summary;

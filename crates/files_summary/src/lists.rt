@@ -3,10 +3,11 @@
 ghost use mathlib.Core.Path.{_≡_};
 ghost use Prim.Native.Nat.{_<_};
 ghost use lib.ListN.{length, set};
-ghost use Rattle.files_summary.specs.Changes.{settledBy, appendBeside, appendRunBeside, withdrawBeside, withdrawRunBeside};
+ghost use Rattle.files_summary.specs.Changes.{append, withdraw, changeBeside, runBeside, settledBy};
 use crate::changes::Change;
 use crate::changes::append_state;
 use crate::changes::withdraw_state;
+use crate::entries::Roster;
 use crate::entries::Summary;
 
 // The entry of a change put in its place, and the change handed on; a refused one changes nothing.
@@ -21,35 +22,23 @@ fn settle(list: &mut [Summary], change: Change) -> Change
 }
 
 // A state appended, and its centre's entry brought up to date.
-pub fn append(
-    list: &mut [Summary],
-    state: &[u64],
-    states: &mut [u64],
-    count: u64,
-    centres: u64,
-) -> Change
-    ensures change { λ r. ⌜ r ≡ appendBeside 1 (length (now (list .entry))) (now (state .entry)) (now (states .entry)) count centres ⌝ }
-    ensures states { λ _. ⌜ now (states .exit) ≡ appendRunBeside 1 (length (now (list .entry))) (now (state .entry)) (now (states .entry)) count centres ⌝ }
+pub fn append(list: &mut [Summary], state: &[u64], states: &mut [u64], roster: Roster) -> Change
+    ensures change { λ r. ⌜ r ≡ changeBeside 1 (length (now (list .entry))) (append (now (state .entry))) (now (states .entry)) roster ⌝ }
+    ensures states { λ _. ⌜ now (states .exit) ≡ runBeside 1 (length (now (list .entry))) (append (now (state .entry))) (now (states .entry)) roster ⌝ }
     ensures list { λ _. ⌜ now (list .exit)
-        ≡ settledBy set (now (list .entry)) (appendBeside 1 (length (now (list .entry))) (now (state .entry)) (now (states .entry)) count centres) ⌝ }
+        ≡ settledBy set (now (list .entry)) (changeBeside 1 (length (now (list .entry))) (append (now (state .entry))) (now (states .entry)) roster) ⌝ }
 {
-    let listed = list.len() as u64 == centres;
-    settle(list, append_state(state, states, count, centres, listed))
+    let long = list.len();
+    settle(list, append_state(state, states, roster, 1, long))
 }
 
 // A state withdrawn, and its centre's entry brought up to date.
-pub fn withdraw(
-    list: &mut [Summary],
-    which: u64,
-    states: &mut [u64],
-    count: u64,
-    centres: u64,
-) -> Change
-    ensures change { λ r. ⌜ r ≡ withdrawBeside 1 (length (now (list .entry))) which (now (states .entry)) count centres ⌝ }
-    ensures states { λ _. ⌜ now (states .exit) ≡ withdrawRunBeside 1 (length (now (list .entry))) which (now (states .entry)) count centres ⌝ }
+pub fn withdraw(list: &mut [Summary], which: u64, states: &mut [u64], roster: Roster) -> Change
+    ensures change { λ r. ⌜ r ≡ changeBeside 1 (length (now (list .entry))) (withdraw which) (now (states .entry)) roster ⌝ }
+    ensures states { λ _. ⌜ now (states .exit) ≡ runBeside 1 (length (now (list .entry))) (withdraw which) (now (states .entry)) roster ⌝ }
     ensures list { λ _. ⌜ now (list .exit)
-        ≡ settledBy set (now (list .entry)) (withdrawBeside 1 (length (now (list .entry))) which (now (states .entry)) count centres) ⌝ }
+        ≡ settledBy set (now (list .entry)) (changeBeside 1 (length (now (list .entry))) (withdraw which) (now (states .entry)) roster) ⌝ }
 {
-    let listed = list.len() as u64 == centres;
-    settle(list, withdraw_state(which, states, count, centres, listed))
+    let long = list.len();
+    settle(list, withdraw_state(which, states, roster, 1, long))
 }

@@ -1,4 +1,4 @@
--- The eleven calls as the header declares them: the parameters in C's order, then the number that is returned, then what each lent run holds afterwards, in the
+-- The twelve calls as the header declares them: the parameters in C's order, then the number that is returned, then what each lent run holds afterwards, in the
 -- same order. Each says that the contract allows these; it is the contract itself, `Post`, the `ensures` as written, which allows no others (`OneAnswers`).
 use mathlib.Core.List.{List}
 use Prim.Native.Nat.{ℕ}
@@ -16,6 +16,8 @@ use Rattle.kelubashi.proofs.kelubashi1_read.Kinds as read-kinds
 use Rattle.kelubashi.proofs.kelubashi1_read.Reads as read-reads
 use Rattle.kelubashi.proofs.kelubashi1_write.Kinds as write-kinds
 use Rattle.kelubashi.proofs.kelubashi1_write.Reads as write-reads
+use Rattle.kelubashi.proofs.kelubashi1_interval.Kinds as interval-kinds
+use Rattle.kelubashi.proofs.kelubashi1_interval.Reads as interval-reads
 use Rattle.kelubashi.proofs.kelubashi1_results.Kinds as results-kinds
 use Rattle.kelubashi.proofs.kelubashi1_results.Reads as results-reads
 use Rattle.kelubashi.proofs.kelubashi1_summary.Kinds as summary-kinds
@@ -43,6 +45,10 @@ module _ (κs : Lfts 1) (at : Places) where
   abbrev pub Root : (word : ℕ) (answer : List ℕ) (number : ℕ) (answerAfter : List ℕ) → Type 0
   Root word answer number answerAfter =
       Allowed 1 root-kinds.ps root-kinds.r root-reads.Post κs (word, (run at 0 answer, tt)) number (tt, (answerAfter, tt))
+
+  abbrev pub Interval : (time epoch : ℕ) (answer : List ℕ) (number : ℕ) (answerAfter : List ℕ) → Type 0
+  Interval time epoch answer number answerAfter =
+      Allowed 1 interval-kinds.ps interval-kinds.r interval-reads.Post κs (time, (epoch, (run at 0 answer, tt))) number (tt, (tt, (answerAfter, tt)))
 
   abbrev pub Propagate : (mu x y z vx vy vz tau : ℕ) (answer : List ℕ) (number : ℕ) (answerAfter : List ℕ) → Type 0
   Propagate mu x y z vx vy vz tau answer number answerAfter =

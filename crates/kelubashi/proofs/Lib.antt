@@ -1,5 +1,4 @@
--- Laws of the C face, for every entry point; what each leaves open; the calls as C has them, with their status, and calls that the checker computes.
-pub mod Face
+-- What each entry point leaves open; the calls as C has them, with their status, and calls that the checker computes.
 pub mod OneAnswers
 pub mod Calls
 pub mod Status

@@ -11,6 +11,8 @@ use Rattle.kelubashi.proofs.kelubashi1_read.Kinds as read-kinds
 use Rattle.kelubashi.proofs.kelubashi1_read.Reads as read-reads
 use Rattle.kelubashi.proofs.kelubashi1_write.Kinds as write-kinds
 use Rattle.kelubashi.proofs.kelubashi1_write.Reads as write-reads
+use Rattle.kelubashi.proofs.kelubashi1_interval.Kinds as interval-kinds
+use Rattle.kelubashi.proofs.kelubashi1_interval.Reads as interval-reads
 use Rattle.kelubashi.proofs.kelubashi1_results.Kinds as results-kinds
 use Rattle.kelubashi.proofs.kelubashi1_results.Reads as results-reads
 use Rattle.kelubashi.proofs.kelubashi1_summary.Kinds as summary-kinds
@@ -38,6 +40,9 @@ read-one κs a x y v w p q = (p .0 ∙ sym (q .0), λ i. (tt, ((p .1 ∙ sym (q 
 
 pub write-one : OneAnswer 5 write-kinds.ps write-kinds.r write-reads.Post
 write-one κs a x y v w p q = (p .0 ∙ sym (q .0), λ i. (tt, (tt, (tt, ((p .1 .1 ∙ sym (q .1 .1)) i, ((p .1 .0 ∙ sym (q .1 .0)) i, tt))))))
+
+pub interval-one : OneAnswer 1 interval-kinds.ps interval-kinds.r interval-reads.Post
+interval-one κs a x y v w p q = (p .0 ∙ sym (q .0), λ i. (tt, (tt, ((p .1 ∙ sym (q .1)) i, tt))))
 
 pub results-one : OneAnswer 3 results-kinds.ps results-kinds.r results-reads.Post
 results-one κs a x y v w p q = (p .0 ∙ sym (q .0), λ i. (tt, ((p .1 .1 ∙ sym (q .1 .1)) i, ((p .1 .0 ∙ sym (q .1 .0)) i, tt))))

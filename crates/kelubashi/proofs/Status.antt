@@ -1,5 +1,5 @@
--- The header: "Every call returns a status: 0, or the number of the refusal"; the first word of every answer but the root's is "the status once more"; the
--- answer run is "left alone by refusal 60", and written whole on every other call.
+-- The header: "Every call returns a status: 0, or the number of the refusal"; the first word of every answer but the root's and the
+-- interval's is "the status once more"; the answer run is "left alone by refusal 60", and written whole on every other call.
 use mathlib.Core.Path.{_≡_, sym, ap, subst, _∙_}
 use mathlib.Core.Bool.{Bool, true, false, not}
 use mathlib.Core.List.{List, [], _∷_}
@@ -15,8 +15,9 @@ use Rattle.bits.specs.Root.{rootRefusalOf, rootWordOf}
 use Rattle.states.specs.Call.{answerWords}
 use Rattle.states.specs.CallPromise.{ByName}
 use Rattle.states.proofs.NamedFigures.{calls-name}
+use Rattle.files_results.specs.Requests.{tauOf}
 use Rattle.kelubashi.specs.Face.{returned, answerAfter, numberIn}
-use Rattle.kelubashi.proofs.Calls.{Places, Root, Propagate, Partials, Read, Write, Results, Summary, Append, Withdraw, Check, Compare}
+use Rattle.kelubashi.proofs.Calls.{Places, Root, Interval, Propagate, Partials, Read, Write, Results, Summary, Append, Withdraw, Check, Compare}
 
 -- For an answer of n words: what is returned, and what the answer run held and holds.
 pub record Status (n : ℕ) (before : List ℕ) (number : ℕ) (after : List ℕ) : Type 0 where
@@ -28,26 +29,25 @@ pub record RootStatus (before : List ℕ) (number : ℕ) (after : List ℕ) : Ty
   pub zero-under-nine : number ≡ 9 → after ≡ 0 ∷ []
   pub sixty : (length before ≡ 1 → ⊥) → (number ≡ 60) × (after ≡ before)
 
-module _ (n : ℕ) (before : List ℕ) where
-  -- The two ways out: a run of n words, and any other.
-  passed : {number : ℕ} (refusal : ℕ) → length before ≡ n → number ≡ returned n before refusal → number ≡ refusal
-  passed refusal h p = p ∙ ap (λ (t : Bool). pick (not t) 60 refusal) (eq-eqb (length before) n h)
+-- The interval's answer is the interval alone, whatever words the time and the epoch are.
+pub record IntervalStatus (before : List ℕ) (number : ℕ) (after : List ℕ) : Type 0 where
+  pub never-refused : length before ≡ 1 → number ≡ 0
+  pub sixty : (length before ≡ 1 → ⊥) → (number ≡ 60) × (after ≡ before)
 
-  written : {after : List ℕ} (words : List ℕ) → length before ≡ n → after ≡ answerAfter n before words → after ≡ words
-  written words h p = p ∙ ap (λ (t : Bool). pick (not t) before words) (eq-eqb (length before) n h)
+-- The two ways out: a run of n words, and any other.
+module _ (n : ℕ) (before : List ℕ) {number : ℕ} where
+  passed : (refusal : ℕ) → number ≡ returned n before refusal → length before ≡ n → number ≡ refusal
+  passed refusal p h = rw (eq-eqb (length before) n h) at p
 
-  left-alone : {number : ℕ} {after : List ℕ} (refusal : ℕ) (words : List ℕ) → (length before ≡ n → ⊥) →
-      number ≡ returned n before refusal → after ≡ answerAfter n before words → (number ≡ 60) × (after ≡ before)
-  left-alone refusal words h p q =
-      let e = ne-eqb (length before) n h in
-      (p ∙ ap (λ (t : Bool). pick (not t) 60 refusal) e, q ∙ ap (λ (t : Bool). pick (not t) before words) e)
+  left-alone : {after : List ℕ} (refusal : ℕ) (words : List ℕ) → number ≡ returned n before refusal → after ≡ answerAfter n before words →
+      (length before ≡ n → ⊥) → (number ≡ 60) × (after ≡ before)
+  left-alone refusal words p q h = let e = ne-eqb (length before) n h in (rw e at p, rw e at q)
 
-  status : {number : ℕ} {after : List ℕ} (words : List ℕ) →
-      number ≡ returned n before (numberIn words) → after ≡ answerAfter n before words → Status n before number after
+  status : {after : List ℕ} (words : List ℕ) → number ≡ returned n before (numberIn words) → after ≡ answerAfter n before words → Status n before number after
   status words p q =
       record {
-        first-word = λ h. passed (numberIn words) h p ∙ sym (ap numberIn (written words h q));
-        sixty = λ h. left-alone (numberIn words) words h p q;
+        first-word = λ h. passed (numberIn words) p h ∙ sym (ap numberIn (rw (eq-eqb (length before) n h) at q));
+        sixty = left-alone (numberIn words) words p q;
       }
 
 module _ (at : Places) (answer : List ℕ) (number : ℕ) (after : List ℕ) where
@@ -56,7 +56,7 @@ module _ (at : Places) (answer : List ℕ) (number : ℕ) (after : List ℕ) whe
   root-status κs word p =
       record {
         zero-under-nine = nine (leb infinity word) (eqb word minusZero) (eqb (length answer) 1) _ (p .0) (p .1);
-        sixty = λ h. left-alone 1 answer (rootRefusalOf word) (rootWordOf word ∷ []) h (p .0) (p .1);
+        sixty = left-alone 1 answer (rootRefusalOf word) (rootWordOf word ∷ []) (p .0) (p .1);
       }
     where
       nine : (large isZero long : Bool) (root : ℕ) →
@@ -65,6 +65,10 @@ module _ (at : Places) (answer : List ℕ) (number : ℕ) (after : List ℕ) whe
       nine false isZero true root e f h = absurd (omega arith)
       nine true isZero false root e f h = absurd (omega arith)
       nine false isZero false root e f h = absurd (omega arith)
+
+  pub interval-status : (κs : Lfts 1) (time epoch : ℕ) → Interval κs at time epoch answer number after → IntervalStatus answer number after
+  interval-status κs time epoch p =
+      record { never-refused = passed 1 answer 0 (p .0); sixty = left-alone 1 answer 0 (tauOf time epoch ∷ []) (p .0) (p .1) }
 
   pub propagate-status : (κs : Lfts 1) (mu x y z vx vy vz tau : ℕ) → Propagate κs at mu x y z vx vy vz tau answer number after → Status 15 answer number after
   unfolding answerWords
@@ -109,10 +113,10 @@ module _ (at : Places) (answer : List ℕ) (number : ℕ) (after : List ℕ) whe
   pub propagate-names : (κs : Lfts 1) (mu x y z vx vy vz tau : ℕ) →
       Propagate κs at mu x y z vx vy vz tau answer number after → length answer ≡ 15 → ByName mu x y z vx vy vz tau number
   propagate-names κs mu x y z vx vy vz tau p h =
-      subst (ByName mu x y z vx vy vz tau) (sym (passed 15 answer _ h (p .0))) (calls-name _ _ mu x y z vx vy vz tau .0)
+      subst (ByName mu x y z vx vy vz tau) (sym (passed 15 answer _ (p .0) h)) (calls-name _ _ mu x y z vx vy vz tau .0)
 
   pub partials-names : (κs : Lfts 2) (mu x y z vx vy vz tau : ℕ) (partials partialsAfter : List ℕ) →
       Partials κs at mu x y z vx vy vz tau answer partials number after partialsAfter →
       length answer ≡ 15 → length partials ≡ 36 → ByName mu x y z vx vy vz tau number
   partials-names κs mu x y z vx vy vz tau partials partialsAfter p h l =
-      subst (ByName mu x y z vx vy vz tau) (sym (passed 15 answer _ h (p .0))) (calls-name _ _ mu x y z vx vy vz tau .1 partials l)
+      subst (ByName mu x y z vx vy vz tau) (sym (passed 15 answer _ (p .0) h)) (calls-name _ _ mu x y z vx vy vz tau .1 partials l)

@@ -6,15 +6,21 @@ use Prim.Native.Nat.{ℕ}
 use lib.Dec.{eqb}
 use lib.ListN.{length, getD}
 use Rattle.bits.specs.Choice.{pick}
+use Rattle.files_formats.specs.declared.elements.Edition.the-variants.{One}
+use Rattle.files_formats.specs.declared.elements.Section.the-variants.{Centres, States, Requests}
+use Rattle.files_formats.specs.Shapes.{placeOf}
+use Rattle.files_formats.specs.Rows.{entryWidth}
 use Rattle.files_reader.specs.Reader.{readingOf}
 use Rattle.files_reader.specs.declared.Reading.{Reading}
 use Rattle.files_reader.specs.declared.Reading.the-variants as reading
-use Rattle.files.specs.Writer.{writingOf, roomOf}
+use Rattle.files.specs.Writer.{runsOf, writingOf, roomOf}
 use Rattle.files.specs.declared.Writing.{Writing}
 use Rattle.files.specs.declared.Writing.the-variants as writing
 use Rattle.files_results.specs.Results.{outcomeOf}
 use Rattle.files_results.specs.declared.Outcome.{Outcome}
 use Rattle.files_summary.specs.declared.changes.Change.{Change}
+use Rattle.files_summary.specs.Entries.{rosterOf}
+use Rattle.files_summary.specs.Changes.{Asked, changeBeside, runBeside, settledBy, putEntry}
 use Rattle.files_check.specs.declared.Judged.{Judged}
 
 -- What is returned, for an answer of n words and a run as it was handed in.
@@ -32,8 +38,8 @@ lentBehind n run lent after = pick (not (eqb (length run) n)) lent after
 -- The reader's answer: number, place, then place and count of centres, states, requests. The place is 0 where the file is accepted, the last six are 0 where
 -- it is refused.
 unfoldable pub readingWords : Reading → List ℕ
-readingWords (reading.Sections p) =
-    0 ∷ 0 ∷ p .centres .place ∷ p .centres .count ∷ p .states .place ∷ p .states .count ∷ p .requests .place ∷ p .requests .count ∷ []
+readingWords (reading.Sections shape) =
+    0 ∷ 0 ∷ placeOf shape Centres ∷ shape .centres ∷ placeOf shape States ∷ shape .states ∷ placeOf shape Requests ∷ shape .requests ∷ []
 readingWords (reading.Refused number place) = number ∷ place ∷ 0 ∷ 0 ∷ 0 ∷ 0 ∷ 0 ∷ 0 ∷ []
 
 -- The writer's answer: number, then the place of the refusal, or the length written.
@@ -44,6 +50,18 @@ writingWords (writing.Refused number place) = number ∷ place ∷ []
 -- The results' answer: number, then the length written or needed.
 abbrev pub outcomeWords : Outcome → List ℕ
 outcomeWords o = o .number ∷ o .size ∷ []
+
+-- A change of the states of a run, so many of which are in use, beside a list of so many centres' entries; and what the run and the list hold afterwards.
+-- The states are edition 1's.
+module _ (asked : Asked) (states : List ℕ) (count centres : ℕ) (list : List ℕ) where
+  abbrev pub changeMade : Change
+  changeMade = changeBeside entryWidth (length list) asked states (rosterOf One count centres)
+
+  abbrev pub statesMade : List ℕ
+  statesMade = runBeside entryWidth (length list) asked states (rosterOf One count centres)
+
+  abbrev pub listMade : List ℕ
+  listMade = settledBy putEntry list changeMade
 
 -- The answer of a change of the states: number, then the states in use afterwards.
 abbrev pub changeWords : Change → List ℕ
@@ -66,10 +84,10 @@ resultsWords file room = outcomeWords (outcomeOf file room)
 
 -- For the writer: what is returned, and what the answer run and the room hold afterwards.
 abbrev pub writeNumber : (run centres states requests room : List ℕ) → ℕ
-writeNumber run centres states requests room = returned 2 run (numberIn (writingWords (writingOf centres states requests room)))
+writeNumber run centres states requests room = returned 2 run (numberIn (writingWords (writingOf One (runsOf centres states requests) room)))
 
 abbrev pub writeAnswer : (run centres states requests room : List ℕ) → List ℕ
-writeAnswer run centres states requests room = answerAfter 2 run (writingWords (writingOf centres states requests room))
+writeAnswer run centres states requests room = answerAfter 2 run (writingWords (writingOf One (runsOf centres states requests) room))
 
 abbrev pub writeRoom : (run centres states requests room : List ℕ) → List ℕ
-writeRoom run centres states requests room = lentBehind 2 run room (roomOf centres states requests room)
+writeRoom run centres states requests room = lentBehind 2 run room (roomOf One (runsOf centres states requests) room)

@@ -2,6 +2,7 @@
 ghost use mathlib.Core.Path.{_≡_};
 ghost use Rattle.kelubashi.specs.Face.{readingWords, writingWords};
 use files::Writing;
+use files_formats::Section;
 use files_reader::Reading;
 
 // The eight words of what the reader answers: number, place, then the place and the count of centres, states and requests.
@@ -9,15 +10,15 @@ pub fn reading_words(reading: Reading) -> [u64; 8]
     ensures { λ r. ⌜ r ≡ readingWords reading ⌝ }
 {
     match reading {
-        Reading::Sections(places) => [
+        Reading::Sections(shape) => [
             0,
             0,
-            places.centres.place as u64,
-            places.centres.count as u64,
-            places.states.place as u64,
-            places.states.count as u64,
-            places.requests.place as u64,
-            places.requests.count as u64,
+            shape.place(Section::Centres) as u64,
+            shape.centres as u64,
+            shape.place(Section::States) as u64,
+            shape.states as u64,
+            shape.place(Section::Requests) as u64,
+            shape.requests as u64,
         ],
         Reading::Refused { number, place } => [number, place as u64, 0, 0, 0, 0, 0, 0],
     }

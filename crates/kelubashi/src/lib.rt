@@ -6,19 +6,12 @@ ghost use Rattle.bits.specs.Root.{rootRefusalOf, rootWordOf};
 ghost use Rattle.states.specs.Call.{orbitWords, answerWords, propagateOf};
 ghost use Rattle.states.specs.WithPartials.{partialsOf, lentOf};
 ghost use Rattle.files_words.specs.Bytes.{put};
+ghost use Rattle.files_results.specs.Requests.{tauOf};
 ghost use Rattle.files_results.specs.Results.{outcomeOf, resultFile};
 ghost use lib.ListN.{length};
-ghost use Rattle.files_summary.specs.Changes.{
-  entryWidth,
-  summaryRefusal,
-  summaryList,
-  appendBeside,
-  appendRunBeside,
-  withdrawBeside,
-  withdrawRunBeside,
-  settledBy,
-  putEntry,
-};
+ghost use Rattle.files_formats.specs.declared.elements.Edition.the-variants.{One};
+ghost use Rattle.files_summary.specs.Entries.{rosterOf};
+ghost use Rattle.files_summary.specs.Changes.{append, withdraw, summaryRefusal, summaryList};
 ghost use Rattle.files_check.specs.RowsFile.{judgedOf, verdictsAfter};
 ghost use Rattle.files_compare.specs.Compare.{compareWords, runAfter};
 ghost use Rattle.kelubashi.specs.Face.{
@@ -31,11 +24,27 @@ ghost use Rattle.kelubashi.specs.Face.{
   writeNumber,
   writeAnswer,
   writeRoom,
+  changeMade,
+  statesMade,
+  listMade,
   changeWords,
   judgedWords,
 };
+use files_formats::Edition;
+use files_summary::Roster;
 
 mod answers;
+
+// The states in use of a run, which are edition 1's, and the centres beside them.
+fn roster_of(count: u64, centres: u64) -> Roster
+    ensures { λ r. ⌜ r ≡ rosterOf One count centres ⌝ }
+{
+    Roster {
+        edition: Edition::One,
+        count,
+        centres,
+    }
+}
 
 // The square root of the double of a word, to an answer run of one word.
 #[no_mangle]
@@ -137,9 +146,29 @@ pub extern "C" fn kelubashi1_write(
     if answer.len() != 2 {
         return 60;
     }
-    let words = answers::writing_words(files::write_file(centres, states, requests, room));
+    let words = answers::writing_words(files::write_file(
+        Edition::One,
+        centres,
+        states,
+        requests,
+        room,
+    ));
     bits::copy_words(&words, answer);
     words[0]
+}
+
+// The interval of a request, its time less the epoch of its state, to an answer run of one word.
+#[no_mangle]
+pub extern "C" fn kelubashi1_interval(time: u64, epoch: u64, answer: &mut [u64]) -> u64
+    ensures number { λ r. ⌜ r ≡ returned 1 (now (answer .entry)) 0 ⌝ }
+    ensures answer { λ _. ⌜ now (answer .exit) ≡ answerAfter 1 (now (answer .entry)) (tauOf time epoch ∷ []) ⌝ }
+{
+    let words = [files_results::tau_of(time, epoch)];
+    if answer.len() != words.len() {
+        return 60;
+    }
+    bits::copy_words(&words, answer);
+    0
 }
 
 // The result file of an element file, to a room, and an answer run of two words.
@@ -167,16 +196,16 @@ pub extern "C" fn kelubashi1_summary(
     list: &mut [u64],
     answer: &mut [u64],
 ) -> u64
-    ensures number { λ r. ⌜ r ≡ returned 2 (now (answer .entry)) (summaryRefusal (now (states .entry)) count centres (now (list .entry))) ⌝ }
+    ensures number { λ r. ⌜ r ≡ returned 2 (now (answer .entry)) (summaryRefusal (now (states .entry)) (rosterOf One count centres) (now (list .entry))) ⌝ }
     ensures answer { λ _. ⌜ now (answer .exit)
-        ≡ answerAfter 2 (now (answer .entry)) (summaryRefusal (now (states .entry)) count centres (now (list .entry)) ∷ count ∷ []) ⌝ }
+        ≡ answerAfter 2 (now (answer .entry)) (summaryRefusal (now (states .entry)) (rosterOf One count centres) (now (list .entry)) ∷ count ∷ []) ⌝ }
     ensures list { λ _. ⌜ now (list .exit)
-        ≡ lentBehind 2 (now (answer .entry)) (now (list .entry)) (summaryList (now (states .entry)) count centres (now (list .entry))) ⌝ }
+        ≡ lentBehind 2 (now (answer .entry)) (now (list .entry)) (summaryList (now (states .entry)) (rosterOf One count centres) (now (list .entry))) ⌝ }
 {
     if answer.len() != 2 {
         return 60;
     }
-    let number = files_summary::words::summary(list, states, count, centres);
+    let number = files_summary::words::summary(list, states, roster_of(count, centres));
     bits::copy_words(&[number, count], answer);
     number
 }
@@ -192,19 +221,18 @@ pub extern "C" fn kelubashi1_append(
     answer: &mut [u64],
 ) -> u64
     ensures number { λ r. ⌜ r ≡ returned 2 (now (answer .entry))
-        (appendBeside entryWidth (length (now (list .entry))) (now (state .entry)) (now (states .entry)) count centres .number) ⌝ }
+        (changeMade (append (now (state .entry))) (now (states .entry)) count centres (now (list .entry)) .number) ⌝ }
     ensures answer { λ _. ⌜ now (answer .exit) ≡ answerAfter 2 (now (answer .entry))
-        (changeWords (appendBeside entryWidth (length (now (list .entry))) (now (state .entry)) (now (states .entry)) count centres)) ⌝ }
+        (changeWords (changeMade (append (now (state .entry))) (now (states .entry)) count centres (now (list .entry)))) ⌝ }
     ensures states { λ _. ⌜ now (states .exit) ≡ lentBehind 2 (now (answer .entry)) (now (states .entry))
-        (appendRunBeside entryWidth (length (now (list .entry))) (now (state .entry)) (now (states .entry)) count centres) ⌝ }
+        (statesMade (append (now (state .entry))) (now (states .entry)) count centres (now (list .entry))) ⌝ }
     ensures list { λ _. ⌜ now (list .exit) ≡ lentBehind 2 (now (answer .entry)) (now (list .entry))
-        (settledBy putEntry (now (list .entry))
-        (appendBeside entryWidth (length (now (list .entry))) (now (state .entry)) (now (states .entry)) count centres)) ⌝ }
+        (listMade (append (now (state .entry))) (now (states .entry)) count centres (now (list .entry))) ⌝ }
 {
     if answer.len() != 2 {
         return 60;
     }
-    let appended = files_summary::words::append(list, state, states, count, centres);
+    let appended = files_summary::words::append(list, state, states, roster_of(count, centres));
     bits::copy_words(&[appended.number, appended.count], answer);
     appended.number
 }
@@ -220,18 +248,18 @@ pub extern "C" fn kelubashi1_withdraw(
     answer: &mut [u64],
 ) -> u64
     ensures number { λ r. ⌜ r ≡ returned 2 (now (answer .entry))
-        (withdrawBeside entryWidth (length (now (list .entry))) which (now (states .entry)) count centres .number) ⌝ }
+        (changeMade (withdraw which) (now (states .entry)) count centres (now (list .entry)) .number) ⌝ }
     ensures answer { λ _. ⌜ now (answer .exit) ≡ answerAfter 2 (now (answer .entry))
-        (changeWords (withdrawBeside entryWidth (length (now (list .entry))) which (now (states .entry)) count centres)) ⌝ }
+        (changeWords (changeMade (withdraw which) (now (states .entry)) count centres (now (list .entry)))) ⌝ }
     ensures states { λ _. ⌜ now (states .exit) ≡ lentBehind 2 (now (answer .entry)) (now (states .entry))
-        (withdrawRunBeside entryWidth (length (now (list .entry))) which (now (states .entry)) count centres) ⌝ }
+        (statesMade (withdraw which) (now (states .entry)) count centres (now (list .entry))) ⌝ }
     ensures list { λ _. ⌜ now (list .exit) ≡ lentBehind 2 (now (answer .entry)) (now (list .entry))
-        (settledBy putEntry (now (list .entry)) (withdrawBeside entryWidth (length (now (list .entry))) which (now (states .entry)) count centres)) ⌝ }
+        (listMade (withdraw which) (now (states .entry)) count centres (now (list .entry))) ⌝ }
 {
     if answer.len() != 2 {
         return 60;
     }
-    let withdrawn = files_summary::words::withdraw(list, which, states, count, centres);
+    let withdrawn = files_summary::words::withdraw(list, which, states, roster_of(count, centres));
     bits::copy_words(&[withdrawn.number, withdrawn.count], answer);
     withdrawn.number
 }
@@ -270,7 +298,7 @@ pub extern "C" fn kelubashi1_compare(
     if answer.len() != 7 {
         return 60;
     }
-    let words = files_told::words_of(files_compare::compare(left, right, rows));
+    let words = files_differences::words_of(files_compare::compare(left, right, rows));
     bits::copy_words(&words, answer);
     words[0]
 }

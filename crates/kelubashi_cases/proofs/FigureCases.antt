@@ -1,39 +1,13 @@
 -- Calls whose figures are computed, with what the header and the documents say of them: the number that is returned, every word of the answer and of all that
 -- is lent, worked out by hand. The other calls, and how a call is said, are in crate `kelubashi`.
-use mathlib.Core.Path.{refl}
 use mathlib.Core.List.{List, [], _∷_, _++_}
 use Prim.Native.Nat.{ℕ}
 use contract.Lifetimes.{Lfts}
-use lib.Ieee.{add, sub, mul, div, neg, lt, eq, ne, ofInt, ofBits, toBits}
 use Rattle.bits.specs.Words.{minusZero}
-use Rattle.bits.specs.Runs.{firstOf, has, sameWords}
-use Rattle.bits.specs.Root.{rootWordOf, rootOf}
-use Rattle.series.specs.Series.{beyondOne, reducedFrom, nested, c4Of, c5Of, atReduced, doublings, quotientsOf, coefficientsOf, sumsOf}
-use Rattle.search_points.specs.Residual.{timeErrorOf, radiusOf}
-use Rattle.search_points.specs.Trial.{anomalyAt, sortOf, evaluatedAt, trialAt}
-use Rattle.search_rule.specs.Rule.{onward, outward, halving, round, inward, history, counted}
-use Rattle.search_rule.specs.Nearer.{nearerEnd}
-use Rattle.search.specs.Search.{searchChoosing}
+use Rattle.bits.specs.Runs.{sameWords}
 use Rattle.search_check.specs.Passing.{picks, shortPasses, pastPasses, passes}
 use Rattle.search_check.specs.Right.{hasSignOf, isRightBeyondZero, isRight}
-use Rattle.states_revolutions.specs.Floor.{floorOf}
-use Rattle.states_revolutions.specs.Revolutions.{revolutionOf, isClosed, isUsable, courseOf, asItIs, withoutN, withoutRevolutions, intervalOf}
-use Rattle.states_arcs.specs.Results.{factorsOf, endStateOf, arcOf, accelerationOf, resultsOf, figuresOf, endedOf}
-use Rattle.states_start.specs.Given.{readOf}
-use Rattle.states_start.specs.Initial.{dot, begunOf, firstStepOf}
-use Rattle.states.specs.Call.{
-  refused,
-  answered,
-  reachedFound,
-  reachedOverBy,
-  reachedFromBy,
-  reachedOrbitBy,
-  reachedWordsBy,
-  endedAnswer,
-  propagateBy,
-  propagateOf,
-  answerWords,
-}
+use Rattle.states.proofs.Computed.{stateAnswer, refusedWith}
 use Rattle.states.specs.WithPartials.{withPartials, partialsBy, lentBy}
 use Rattle.states_partials.specs.U.{uAtFound, uOf, uRefused}
 use Rattle.states_partials.specs.Matrix.{matrixOf}
@@ -46,31 +20,13 @@ use Rattle.files_reader.specs.Cases.{p10File}
 use Rattle.files_results.specs.Requests.{requestWords}
 use Rattle.files_results.specs.Marked.{p10Result}
 use Rattle.files_results.specs.Results.{rowOf, rowsOf, resultFile, outcomeIn}
-use Rattle.files_check.specs.RowsFile.{rowsCheck, fieldsAt, verdictOf, verdictsOf, judgedOf, verdictsAfter}
+use Rattle.files_check.specs.RowsFile.{rowsCheck, eachOf, verdictOf, judgedOf, verdictsAfter}
 use Rattle.kelubashi.proofs.Calls.{Places, Propagate, Partials, Results, Check}
-use Rattle.kelubashi.proofs.CallCases.{one, minusOne, nan, sevens}
+use Rattle.kelubashi.proofs.CallCases.{one, minusOne, nan, infinite, sevens, one-run, two-runs}
 
--- ---- A state.
-abbrev infinite : ℕ
-infinite = 0x7ff0000000000000
-
--- "A refusal carries the trial points used so far .., all other figures +0".
-abbrev refusedWith : (refusal points : ℕ) → List ℕ
-refusedWith refusal points = refusal ∷ points ∷ 0 ∷ 0 ∷ 0 ∷ 0 ∷ 0 ∷ 0 ∷ 0 ∷ 0 ∷ 0 ∷ 0 ∷ 0 ∷ 0 ∷ 0 ∷ []
-
--- P10's answer: it stays at (1,0,0), and both accelerations are −(+0).
+-- ---- A state. P10's answer: it stays at (1,0,0), and both accelerations are −(+0).
 abbrev p10Answer : List ℕ
 p10Answer = 0 ∷ 21 ∷ one ∷ 0 ∷ 0 ∷ 0 ∷ 0 ∷ 0 ∷ minusZero ∷ minusZero ∷ minusZero ∷ minusZero ∷ minusZero ∷ minusZero ∷ one ∷ []
-
--- What a state's answer is computed by.
-stateAnswer : List ℕ → List ℕ
-unfolding
-    propagateBy answerWords reachedWordsBy reachedOrbitBy reachedFromBy reachedOverBy reachedFound intervalOf withoutRevolutions withoutN asItIs floorOf
-    courseOf isClosed isUsable revolutionOf ofInt endedAnswer answered refused readOf begunOf dot firstStepOf endedOf figuresOf resultsOf
-    accelerationOf arcOf endStateOf factorsOf has firstOf searchChoosing history inward round halving outward onward counted trialAt evaluatedAt
-    sortOf anomalyAt timeErrorOf radiusOf coefficientsOf sumsOf quotientsOf doublings atReduced c4Of c5Of nested reducedFrom beyondOne rootOf
-    rootWordOf add sub mul div neg lt eq ne ofBits toBits
-stateAnswer words = answerWords (propagateOf words)
 
 pub states : (κs : Lfts 1) (at : Places) →
     Propagate κs at 0 one 0 0 0 0 0 one (sevens 15) 0 p10Answer
@@ -98,25 +54,8 @@ pub states : (κs : Lfts 1) (at : Places) →
     × Propagate κs at nan one one one one one one one (sevens 14) 60 (sevens 14)
     × Propagate κs at nan one one one one one one one (sevens 16) 60 (sevens 16)
 unfolding stateAnswer
-states κs at = (
-  (refl, refl),
-  (refl, refl),
-  (refl, refl),
-  (refl, refl),
-  (refl, refl),
-  (refl, refl),
-  (refl, refl),
-  (refl, refl),
-  (refl, refl),
-  (refl, refl),
-  (refl, refl),
-  (refl, refl),
-  (refl, refl),
-  (refl, refl),
-  (refl, refl),
-  (refl, refl),
-  (refl, refl),
-)
+states κs at =
+    (one-run, one-run, one-run, one-run, one-run, one-run, one-run, one-run, one-run, one-run, one-run, one-run, one-run, one-run, one-run, one-run, one-run)
 
 -- ---- With partials. P10's: without a force f = g' = 1, f' = −(+0) and g = τ = 1, and every A is a zero. So the blocks are f·I, g·I, f'·I, whose zeros are
 -- all minus zero, and g'·I.
@@ -141,14 +80,14 @@ pub partials : (κs : Lfts 2) (at : Places) →
 unfolding
     stateAnswer partialsBy lentBy withPartials partialsRefusal lentAfter uAtFound uOf uRefused matrixOf plusOf minusOf partialOf unitOf componentOf entryOf
     upTo entriesOf
-partials κs at = ((refl, (refl, refl)), (refl, (refl, refl)), (refl, (refl, refl)), (refl, (refl, refl)), (refl, (refl, refl)), (refl, (refl, refl)))
+partials κs at = (two-runs, two-runs, two-runs, two-runs, two-runs, two-runs)
 
 -- ---- "P10 as one request writes, whole", by its bytes; the byte behind them stays.
 pub results : (κs : Lfts 3) (at : Places) →
     Results κs at p10File (sevens 105) (sevens 2) 0 (p10Result ++ (7 ∷ [])) (0 ∷ 104 ∷ [])
     × Results κs at p10File (sevens 103) (sevens 2) 26 (sevens 103) (26 ∷ 104 ∷ [])
 unfolding stateAnswer resultFile outcomeIn rowsOf rowOf requestWords readingOf put asBytes wordAt
-results κs at = ((refl, (refl, refl)), (refl, (refl, refl)))
+results κs at = (two-runs, two-runs)
 
 -- ---- Another station's rows: P10's, and the same with an anomaly of the other sign. The word behind the verdicts stays.
 abbrev p10Row : (psi : ℕ) → List ℕ
@@ -157,6 +96,6 @@ p10Row psi = 0 ∷ one ∷ 0 ∷ 0 ∷ 0 ∷ 0 ∷ 0 ∷ one ∷ psi ∷ one ∷
 pub checks : (κs : Lfts 3) (at : Places) →
     Check κs at (asBytes (2 ∷ p10Row one ++ p10Row minusOne)) (sevens 3) (sevens 2) 0 (1 ∷ 0 ∷ 7 ∷ []) (0 ∷ 2 ∷ [])
 unfolding
-    stateAnswer judgedOf verdictsAfter rowsCheck wordAt asBytes verdictsOf verdictOf fieldsAt accepts acceptsAt sameWords isRight isRightBeyondZero hasSignOf
-    passes shortPasses pastPasses picks nearerEnd
-checks κs at = (refl, (refl, refl))
+    stateAnswer judgedOf verdictsAfter rowsCheck wordAt asBytes eachOf verdictOf accepts acceptsAt sameWords isRight isRightBeyondZero hasSignOf
+    passes shortPasses pastPasses picks
+checks κs at = two-runs

@@ -18,7 +18,7 @@ use Rattle.files_results.specs.Results.{longestResult, refusedFile, resultBy, r
 use Rattle.files_results.proofs.Rows.{result-length}
 
 longest-by : (file : List ℕ) (reading : Reading) → readingOf file ≡ reading → length (asBytes (resultBy file reading)) ≤ longestResult
-longest-by file (Sections places) e = omega (arith, result-length file places, accepted-counts file places e)
+longest-by file (Sections shape) e = omega (arith, result-length file shape, accepted-counts file shape e)
 longest-by file (Refused number place) e = omega (arith, length-as-bytes (refusedFile number))
 
 pub longest : (file : List ℕ) → length (resultFile file) ≤ longestResult

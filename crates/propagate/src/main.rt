@@ -8,7 +8,7 @@
 // whoever runs it looks at what it wrote: an empty output is never a result file.
 ghost use mathlib.Core.Path.{_≡_};
 ghost use mathlib.Core.List.{List, _++_};
-ghost use Prim.Native.Nat.{ℕ, _<_};
+ghost use Prim.Native.Nat.{ℕ, _+_, _<_};
 ghost use lib.ListN.{length, take};
 ghost use Rattle.io.specs.Counts.{Counts};
 ghost use Rattle.files_reader.specs.Reader.{longestFile};
@@ -47,7 +47,7 @@ fn propagate_named() {
 }
 
 // How many bytes of a file are read: one more than the longest accepted file has.
-const READ: usize = files_reader::LONGEST_FILE + 1;
+const READ: usize = files_formats::LONGEST_FILE + 1;
 
 // A file that is open, and is called by this name.
 //
@@ -68,7 +68,7 @@ fn propagate(fd: i32, name: &[u8]) {
 
 // Writes the result file of an element file, of which so many bytes were read, to standard output.
 fn answer(file: &[u8], n: usize)
-    requires { ⌜ Counts n (now file) × (longestFile < length (now file)) ⌝ }
+    requires { ⌜ Counts n (now file) × (length (now file) ≡ longestFile + 1) ⌝ }
 {
     let mut room = [0u8; LONGEST_RESULT];
     let size = results_of(file, n, &mut room);

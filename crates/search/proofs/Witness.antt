@@ -1,9 +1,9 @@
 -- The premise of demand 3 can be met: by P10 of document 01, whose 21st outward point is exact.
-use Prim.Native.Nat.{ℕ, zero, suc, _+_, _<_, _≤_}
-use mathlib.Core.Path.{_≡_, refl, subst}
+use Prim.Native.Nat.{ℕ, zero, suc}
+use mathlib.Core.Path.{_≡_, subst}
 use native.Mathlib.Omega.{arith}
 use native.Mathlib.Decide.{decLt}
-use lib.Ieee.{Float, add, sub, mul, div, neg, lt, eq, ne, ofBits}
+use lib.Ieee.{add, sub, mul, div, neg, lt, eq, ne, ofBits}
 use Rattle.series.specs.Series.{beyondOne, reducedFrom, nested, c4Of, c5Of, atReduced, coefficientsOf, sumsOf}
 use Rattle.search_points.specs.Residual.{timeErrorOf}
 use Rattle.search_points.specs.Trial.{anomalyAt, sortOf, evaluatedAt, trialAt}

@@ -1,6 +1,6 @@
 -- The two refusals of the search, for any trial function and any proposal: it ends with all outward points short exactly when they are, and with an unreadable
 -- point exactly when one was tried, which is then the last.
-use Prim.Native.Nat.{ℕ, zero, suc, _+_, _^_, _<_}
+use Prim.Native.Nat.{ℕ, zero, suc, _+_, _^_}
 use mathlib.Core.Path.{_≡_, refl, ap, subst}
 use mathlib.Core.List.{List, [], _∷_, _++_}
 use mathlib.Core.Logic.{_⊎_, inl, inr, ⊎-elim, _↔_}

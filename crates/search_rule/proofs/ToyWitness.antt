@@ -1,12 +1,12 @@
 -- What the rule's theorems ask for can be had: a trial function that is short by 2 below place 8, past by 1 from there to 2 ^ 63, and unreadable from there on.
-use Prim.Native.Nat.{ℕ, _+_, _*_, _^_, _<_, _≤_}
+use Prim.Native.Nat.{ℕ, _^_, _<_, _≤_}
 use mathlib.Core.Path.{_≡_, refl, ap, subst, sym, _∙_}
 use mathlib.Core.Bool.{Bool, true, false}
 use native.Mathlib.Omega.{arith}
 use borrow.Author.Tests.{lt-ltb, le-ltb, ltb-true, ltb-false}
 use lib.Dec.{ltb}
 use Rattle.bits.specs.Choice.{pick}
-use lib.Ieee.{Float, lt, ofBits}
+use lib.Ieee.{lt, ofBits}
 use Rattle.bits.specs.Arithmetic.{n1, n2}
 use Rattle.search_points.specs.declared.figures.Sort.{Sort}
 use Rattle.search_points.specs.declared.figures.Sort.the-variants.{Short, Past, Exact, Unreadable}
@@ -14,7 +14,7 @@ use Rattle.search_points.specs.Trial.{unevaluated}
 use Rattle.search_rule.specs.declared.pair.End.{End}
 use Rattle.search_rule.specs.Rule.{Trials, Proposal, Ending, between, exact, unreadable, allShort, history, endingOf}
 use Rattle.search_rule.specs.Nearer.{isSmaller}
-use Rattle.search_rule.specs.RulePromise.{Sorts, IsShort, outPoint, FirstNotShort, Findable, IsFound, IsAnswer}
+use Rattle.search_rule.specs.RulePromise.{Sorts, IsShort, outPoint, Findable, IsFound, IsAnswer}
 use Rattle.search_rule.proofs.Reach.{finds}
 use Rattle.search_rule.proofs.Nearest.{chosen-so}
 

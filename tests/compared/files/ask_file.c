@@ -73,6 +73,26 @@ static void compare_results(const struct file *f)
     expect_sixty("results with another count than 2");
 }
 
+/* ---- intervals ---- */
+
+/* Of each request of sections that were taken from an accepted file. */
+static void compare_intervals(const struct sections *s)
+{
+    size_t i, count = wrong_count(1);
+
+    for (i = 0; i < s->request_words; i += REQUEST) {
+        uint64_t time = s->requests[i + 1], epoch = s->states[STATE * s->requests[i] + 1];
+
+        lend_both(0);
+        library.status = kelubashi1_interval(time, epoch, answer_of(&library, count), count);
+        expect_sixty("interval with another count than 1");
+        lend_both(0);
+        library.status = kelubashi1_interval(time, epoch, library.answer + 1, 1);
+        second.status = second_interval(time, epoch, second.answer + 1, 1);
+        compare("interval", 1);
+    }
+}
+
 /* ---- writing ---- */
 
 static const uint64_t *run_of(const uint64_t *run, size_t words)
@@ -133,6 +153,7 @@ static void write_again(const struct file *f)
     if (second.status != 0 || second.answer[2] != f->length
         || memcmp(room_of(&second), f->bytes, f->length) != 0)
         differs("an accepted file written again");
+    compare_intervals(&taken);
 }
 
 void ask_file(const char *family, const struct file *f)

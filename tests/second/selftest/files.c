@@ -238,10 +238,85 @@ static void test_p10_file(void)
     group("P10's whole result file");
 }
 
+/* ---- the interval of a request ---- */
+
+static void expect_interval(uint64_t time, uint64_t epoch, uint64_t want,
+                            const char *what)
+{
+    uint64_t answer = KEPT;
+
+    check(second_interval(time, epoch, &answer, 1) == 0, what);
+    check(answer == want, what);
+}
+
+/* Whole numbers below 2^53 and their differences are exact; sums from 2^53 on
+ * lose a last one, and an odd sum goes to the even neighbour. */
+static void expect_whole(int64_t time, int64_t epoch)
+{
+    int64_t tau = time - epoch, size = tau < 0 ? -tau : tau;
+
+    if (size > ((int64_t)1 << 53) && size % 2 != 0)
+        size += (size + 1) / 2 % 2 == 0 ? 1 : -1;
+    expect_interval(sec_word((double)time), sec_word((double)epoch),
+                    sec_word(tau < 0 ? -(double)size : (double)size),
+                    "interval of whole numbers");
+}
+
+/* Both zeros, the ends of the range, ties, and what has no number. */
+static void test_interval(void)
+{
+    const uint64_t last = 0x3CA0000000000000u; /* 2^-53 */
+    const uint64_t most = 0x7C90000000000000u; /* 2^970, half a last place */
+    uint64_t answer, i;
+
+    expect_interval(ONE, 0, ONE, "interval from +0");
+    expect_interval(0, ONE, MINUS_ZERO | ONE, "interval below zero");
+    expect_interval(0, 0, 0, "interval of +0");
+    expect_interval(0, MINUS_ZERO, 0, "interval of +0 and -0");
+    expect_interval(MINUS_ZERO, 0, MINUS_ZERO, "interval of -0 and +0");
+    expect_interval(MINUS_ZERO, MINUS_ZERO, 0, "interval of -0");
+    expect_interval(ONE, ONE, 0, "interval of one time");
+    expect_interval(2, 1, 1, "interval of subnormals");
+    expect_interval(1, 2, MINUS_ZERO | 1, "interval of subnormals, below zero");
+    expect_interval(0x0010000000000000u, 1, 0x000FFFFFFFFFFFFFu,
+                    "interval from the least normal");
+    expect_interval(ONE, MINUS_ZERO | last, ONE, "interval, a tie down");
+    expect_interval(ONE + 1, MINUS_ZERO | last, ONE + 2, "interval, a tie up");
+    expect_interval(LARGEST, MINUS_ZERO | LARGEST, INFINITE_WORD,
+                    "interval too large");
+    expect_interval(LARGEST, MINUS_ZERO | most, INFINITE_WORD,
+                    "interval too large by a tie");
+    expect_interval(LARGEST, MINUS_ZERO | (most - 1), LARGEST,
+                    "interval just not too large");
+    expect_interval(INFINITE_WORD, ONE, INFINITE_WORD, "interval to infinity");
+    expect_interval(ONE, INFINITE_WORD, MINUS_INFINITE,
+                    "interval from infinity");
+    expect_interval(INFINITE_WORD, MINUS_INFINITE, INFINITE_WORD,
+                    "interval of both infinities");
+    expect_interval(INFINITE_WORD, INFINITE_WORD, NAN_WORD,
+                    "interval of one infinity");
+    expect_interval(MINUS_INFINITE, MINUS_INFINITE, NAN_WORD,
+                    "interval of the other infinity");
+    for (i = 1; i < (uint64_t)1 << 52; i *= 2) {
+        expect_interval(INFINITE_WORD | i, ONE, NAN_WORD, "interval to NaN");
+        expect_interval(ONE, MINUS_INFINITE | i, NAN_WORD, "interval from NaN");
+        expect_interval(INFINITE_WORD | i, MINUS_INFINITE | 1, NAN_WORD,
+                        "interval of NaNs");
+    }
+    for (i = 0; i < 100000; i++)
+        expect_whole((int64_t)(chance() >> 11),
+                     (int64_t)(chance() >> 11) * (i % 2 ? -1 : 1));
+    answer = KEPT;
+    check(second_interval(ONE, 0, &answer, 0) == 60 && answer == KEPT
+              && second_interval(ONE, 0, &answer, 2) == 60 && answer == KEPT
+              && second_interval(ONE, 0, NULL, 0) == 60, "interval 60");
+    group("intervals");
+}
+
 /* Rows are the first eleven words of the propagator, tau = time - epoch. */
 static void test_rows(void)
 {
-    uint64_t a[2], answer[15];
+    uint64_t a[2], answer[15], interval;
     size_t i, j, len;
 
     make_runs(16, 500, 1500);
@@ -271,6 +346,9 @@ static void test_rows(void)
         second_propagate(centres[s[0]], s[2], s[3], s[4], s[5], s[6], s[7],
                          sec_word(tau), answer, 15);
         check(answer[0] != 2, "row: 2 is given");
+        check(second_interval(requests[2 * i + 1], s[1], &interval, 1) == 0
+                  && interval == (sec_nan(tau) ? NAN_WORD : sec_word(tau)),
+              "row: interval");
         for (j = 0; j < 11; j++)
             check(get64(rows + 16 + 88 * i + 8 * j) == answer[j], "row");
     }
@@ -284,5 +362,6 @@ void selftest_files(void)
     test_limits();
     test_writer();
     test_p10_file();
+    test_interval();
     test_rows();
 }

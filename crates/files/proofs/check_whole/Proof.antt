@@ -1,21 +1,18 @@
 -- The test, at the section's width.
-use Prim.Native.Nat.{ℕ, _%_}
-use native.Mathlib.Omega.{arith}
-use mathlib.Core.Path.{ap, _∙_}
+use Prim.Native.Nat.{_%_}
+use mathlib.Core.Path.{_∙_}
 use borrow.Author.Needs.{needs}
 use lib.Dec.{eqb}
-use Rattle.files_sections.specs.Checks.{need}
-use Rattle.files_sections.proofs.RecordLaws.{width-bounds}
+use Rattle.files_checks.specs.Checks.{need}
 use Rattle.files.proofs.check_whole.Statement.{statement}
 use Rattle.files.proofs.check_whole.Tie as tie
 
-rem-need : tie.Need-rem-need
-rem-need c = omega (arith, width-bounds (c .before .args .section), c .width .ensures)
-
 returns : tie.Need-returns
 returns c =
-    let a = c .before .before .args in
-    c .need .ensures ∙ ap (λ (w : ℕ). need (eqb (a .words % w) 0) 27 (a .index)) (c .before .width .ensures)
+    let words = c .before .before .before .args .words in
+    let width = c .before .before .width .ensures .0 in
+    let index = c .before .index .ensures in
+    c .need .ensures ∙ (λ i. need (eqb (words % width i) 0) 27 (index i))
 
 pub check-whole-spec : {M : Type 1} → statement M
 check-whole-spec =
@@ -23,6 +20,6 @@ check-whole-spec =
     (tie.spec
     (λ c κs. search needs)
     (λ c. search needs)
-    rem-need
+    (λ c κs. search needs)
     (λ c κs. search needs)
     returns)

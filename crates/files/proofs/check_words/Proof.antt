@@ -1,24 +1,36 @@
--- The walk, by the section's rule.
-use mathlib.Core.List.{[]}
-use mathlib.Core.Path.{ap, _∙_}
-use Prim.Native.Nat.{_+_}
+-- The walks in file order, then the room.
+use Prim.Native.Nat.{ℕ}
+use mathlib.Core.Path.{ap, ap₂, _∙_}
 use borrow.Author.Needs.{needs}
-use lib.ListN.{length}
-use Rattle.files_sections.specs.declared.checks.Rule.{Rule}
-use Rattle.files_sections.specs.Checks.{walk, rulingOf}
+use Rattle.files_checks.specs.Checks.{_⟫_}
+use Rattle.files_formats.specs.Shapes.{runCheck}
+use Rattle.files.specs.Writer.{runsOf, roomCheck}
+use Rattle.files.proofs.JudgeLaws.{each-then}
 use Rattle.files.proofs.check_words.Statement.{statement}
 use Rattle.files.proofs.check_words.Tie as tie
 
 returns : tie.Need-returns
 returns c =
-    let a = c .before .before .before .args in
-    c .walk-run .ensures ∙ ap (λ (r : Rule). walk (rulingOf r) (a .place + 8) [] (length (a .run .now)) (a .run .now)) (c .before .rule .ensures)
+    let a = c .before .before .before .before .before .before .before .before .before .before .before .args in
+    c .first3 .ensures
+    ∙ ap₂ _⟫_ (c .before .before .before .before .before .before .check-run .ensures)
+    (c .before .first2 .ensures
+    ∙ ap₂ _⟫_ (c .before .before .before .before .before .check-run2 .ensures)
+    (c .before .before .first .ensures
+    ∙ ap₂ _⟫_ (c .before .before .before .before .check-run3 .ensures)
+    (c .before .before .before .need .ensures ∙ ap (λ (n : ℕ). roomCheck n (a .room)) (c .before .before .before .before .before .before .before .end .ensures .0))))
+    ∙ each-then (λ section. runCheck (runsOf (a .centres .now) (a .states .now) (a .requests .now) section) (a .shape) section) _
 
 pub check-words-spec : {M : Type 1} → statement M
 check-words-spec =
     tie.close
     (tie.spec
-    (λ c. search needs)
+    (λ c κs. search needs)
+    (λ c κs. search needs)
+    (λ c κs. search needs)
+    (λ c κs. search needs)
+    (λ c κs. search needs)
+    (λ c κs. search needs)
     (λ c κs. search needs)
     (λ c κs. search needs)
     returns)

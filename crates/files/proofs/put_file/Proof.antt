@@ -1,48 +1,51 @@
 -- The edition, then the sections, each right after the one before.
 use Prim.Native.Nat.{ℕ}
-use mathlib.Core.Path.{ap, ap₂, _∙_}
+use native.Mathlib.Omega.{arith}
+use mathlib.Core.Path.{ap, _∙_}
 use borrow.Author.Needs.{needs}
-use Rattle.files_words.specs.Bytes.{asBytes, put}
-use Rattle.files_sections.specs.declared.sections.Section.the-variants.{States, Requests}
-use Rattle.files_sections.specs.Sections.{statesPlace, requestsPlace}
-use Rattle.files.specs.Writer.{sectionWords}
-use Rattle.files.proofs.WriteLaws.{file-put}
+use Rattle.files_words.specs.Bytes.{bytesOf, put}
+use Rattle.files_formats.specs.declared.elements.Section.the-variants.{Centres, States, Requests}
+use Rattle.files.specs.Writer.{runsOf}
+use Rattle.files.proofs.FileLaws.{file-put}
 use Rattle.files.proofs.put_file.Statement.{statement}
 use Rattle.files.proofs.put_file.Tie as tie
 
+put-section-requires : tie.Need-put-section-requires
+put-section-requires c κs =
+    let f = c .before .before .before .before .before .before .before .before .before .before .pre in
+    omega (arith, f .roomy, f .whole Centres)
+
+put-section-requires-2 : tie.Need-put-section-requires-2
+put-section-requires-2 c κs =
+    let put = c .before .before .before .before in
+    let f = put .before .before .before .before .before .before .before .before .before .before .pre in
+    omega (arith, f .roomy, f .whole States)
+
+put-section-requires-3 : tie.Need-put-section-requires-3
+put-section-requires-3 c κs =
+    let put = c .before .before .before .before .before .before .before .before in
+    let f = put .before .before .before .before .before .before .before .before .before .before .pre in
+    omega (arith, f .roomy, f .whole Requests)
+
 returns : tie.Need-returns
 returns c =
-    let p3 = c .before .before in
-    let p2 = p3 .before .before .before .before .before in
-    let p1 = p2 .before .before .before .before .before in
-    let p0 = p1 .before .before .before .before in
-    let start = p0 .before .before .before .before .before .before .before .before in
+    let word = c .before .before .before .before .before .before .before .before .before .before .before .before .before .before in
+    let start = word .before .before .before .before .before .before .before in
     let a = start .args in
-    let e = p0 .before .before .before .records .ensures in
-    let f = p0 .before .before .records2 .ensures in
-    let s = p2 .before .states-place .ensures ∙ ap statesPlace e in
-    let r = p3 .before .requests-place .ensures ∙ ap₂ requestsPlace e f in
-    file-put (a .centres .now) (a .states .now) (a .requests .now) (a .room .now)
-    (p0 .put-word .last .0) (p1 .put-section .last .0) (p2 .put-section2 .last .0) (p3 .put-section3 .last .0)
-    (start .pre)
-    (p0 .put-word .ensures)
-    (p1 .put-section .ensures)
-    (p2 .put-section2 .ensures ∙ ap (λ (p : ℕ). put (p1 .put-section .last .0) p (asBytes (sectionWords States (a .states .now)))) s)
-    (p3 .put-section3 .ensures ∙ ap (λ (p : ℕ). put (p2 .put-section2 .last .0) p (asBytes (sectionWords Requests (a .requests .now)))) r)
+    file-put (a .shape) (runsOf (a .centres .now) (a .states .now) (a .requests .now)) (a .room .now) _ _ _ _ (start .pre)
+    (word .put-word .ensures ∙ ap (λ (n : ℕ). put (a .room .now) 0 (bytesOf 8 n)) (word .before .edition-word .ensures))
+    (c .before .before .before .before .before .before .before .before .before .before .put-section .ensures)
+    (c .before .before .before .before .before .before .put-section2 .ensures)
+    (c .before .before .put-section3 .ensures)
 
 pub put-file-spec : {M : Type 1} → statement M
 put-file-spec =
     tie.close
     (tie.spec
     (λ c κs. search needs)
-    (λ c. search needs)
     (λ c κs. search needs)
-    (λ c. search needs)
-    (λ c κs. search needs)
-    (λ c κs. search needs)
-    (λ c κs. search needs)
-    (λ c κs. search needs)
-    (λ c κs. search needs)
-    (λ c κs. search needs)
+    put-section-requires
+    put-section-requires-2
+    put-section-requires-3
     (λ c. search needs)
     returns)

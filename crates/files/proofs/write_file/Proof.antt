@@ -1,37 +1,59 @@
 -- Judged first; the room changes only where nothing is refused.
-use mathlib.Core.Path.{sym, ap, _∙_}
+use Prim.Native.Nat.{ℕ}
+use mathlib.Core.Path.{_≡_, sym, ap, subst, _∙_}
+use mathlib.Core.List.{List}
 use borrow.Author.Needs.{needs}
 use lib.ListN.{length}
-use Rattle.files.specs.declared.Writing.the-variants.{Length}
-use Rattle.files.specs.Writer.{writingOf, roomOf, Fits}
-use Rattle.files.proofs.WriteLaws.{fits}
+use Rattle.files_words.specs.Bytes.{asBytes, put}
+use Rattle.files_formats.specs.declared.elements.Edition.{Edition}
+use Rattle.files_formats.specs.declared.shapes.Shape.{Shape}
+use Rattle.files_formats.specs.Shapes.{endOf}
+use Rattle.files_reader.specs.declared.Reading.{Reading}
+use Rattle.files_reader.specs.declared.Reading.the-variants.{Sections, Refused}
+use Rattle.files_reader.specs.Reader.{readingBy}
+use Rattle.files_reader.proofs.Accepted.{read-by, refused-by}
+use Rattle.files.specs.declared.Writing.the-variants as writing
+use Rattle.files.specs.Writer.{Runs, runsOf, shapeBy, writeCheck, wordsBy, fileOf, writingOf, roomOf, Fits}
+use Rattle.files.proofs.JudgeLaws.{fits}
 use Rattle.files.proofs.write_file.Statement.{statement}
 use Rattle.files.proofs.write_file.Tie as tie
 
-accepted : (c : tie.After-enum-told) →
-    let a = c .before .before .before .before .before .before .before .args in
-    Fits (a .centres .now) (a .states .now) (a .requests .now) (length (a .room .now))
-accepted c =
-    let a = c .before .before .before .before .before .before .before .args in
-    fits (a .centres .now) (a .states .now) (a .requests .now) (length (a .room .now)) (sym (c .before .before .judge .ensures) ∙ c .enum-told .given .1)
+module _ (edition : Edition) (runs : Runs) (room : List ℕ) {x : Reading} (judged : x ≡ readingBy (writeCheck edition runs (length room)) (shapeBy edition runs)) where
+  fitting : {shape : Shape} → x ≡ Sections shape → Fits shape runs (length room)
+  fitting e =
+      let a = read-by _ _ _ (sym judged ∙ e) in
+      subst (λ (s : Shape). Fits s runs (length room)) (a .1) (fits edition runs (length room) (a .0))
+
+  written : {shape : Shape} {size : ℕ} {after : List ℕ} → x ≡ Sections shape → size ≡ endOf shape → after ≡ put room 0 (asBytes (wordsBy shape runs)) →
+      (writing.Length size ≡ writingOf edition runs room) × (after ≡ roomOf edition runs room)
+  unfolding writingOf roomOf fileOf
+  written e size after =
+      let a = read-by (writeCheck edition runs (length room)) _ _ (sym judged ∙ e) in (
+        rw (a .0) (ap writing.Length (size ∙ ap endOf (sym (a .1)))),
+        rw (a .0) (after ∙ ap (λ (s : Shape). put room 0 (asBytes (wordsBy s runs))) (sym (a .1))),
+      )
+
+  not-written : {number place : ℕ} → x ≡ Refused number place → (writing.Refused number place ≡ writingOf edition runs room) × (room ≡ roomOf edition runs room)
+  unfolding writingOf roomOf
+  not-written e = let f = refused-by (writeCheck edition runs (length room)) _ (sym judged ∙ e) in (rw f, rw f)
 
 put-file-requires : tie.Need-put-file-requires
-put-file-requires c κs = accepted (c .before)
-
-file-size-requires : tie.Need-file-size-requires
-file-size-requires c κs = accepted (c .before .before .before .before) .within
+put-file-requires c κs =
+    let a = c .before .before .before .before .before .before .before .before .before .args in
+    fitting (a .edition) (runsOf (a .centres .now) (a .states .now) (a .requests .now)) (a .room .now)
+    (c .before .before .before .before .judge .ensures) (c .before .before .shape .given .1)
 
 returns : tie.Need-returns
-unfolding writingOf roomOf
 returns c =
-    let e = sym (c .before .before .before .judge .ensures) ∙ c .before .verdict .given .1 in
-    (rw e, rw e)
+    let a = c .before .before .before .before .before .before .before .before .args in
+    not-written (a .edition) (runsOf (a .centres .now) (a .states .now) (a .requests .now)) (a .room .now)
+    (c .before .before .before .judge .ensures) (c .before .number .given .1)
 
 returns-2 : tie.Need-returns-2
-unfolding writingOf roomOf
 returns-2 c =
-    let e = sym (c .before .before .before .before .before .before .before .judge .ensures) ∙ c .before .before .before .before .before .enum-told .given .1 in
-    (rw e (ap Length (c .file-size .ensures)), rw e (c .before .before .before .put-file .ensures))
+    let a = c .before .before .before .before .before .before .before .before .before .before .before .before .before .args in
+    written (a .edition) (runsOf (a .centres .now) (a .states .now) (a .requests .now)) (a .room .now)
+    (c .before .before .before .before .before .before .before .before .judge .ensures) (c .before .before .before .before .before .before .shape .given .1) (c .end .ensures .0) (c .before .before .before .put-file .ensures)
 
 pub write-file-spec : {M : Type 1} → statement M
 write-file-spec =
@@ -41,7 +63,7 @@ write-file-spec =
     (λ c. search needs)
     (λ c. search needs)
     put-file-requires
-    file-size-requires
+    (λ c κs. search needs)
     returns
     (λ c. search needs)
     returns-2)

@@ -5,8 +5,8 @@ use mathlib.Core.List.{List}
 use native.Mathlib.Omega.{arith}
 use borrow.Author.Needs.{needs}
 use lib.ListN.{length}
-use Rattle.files_sections.specs.declared.checks.Check.{Check}
-use Rattle.files_sections.specs.declared.checks.Check.the-variants.{Sound}
+use Rattle.files_checks.specs.declared.Check.{Check}
+use Rattle.files_checks.specs.declared.Check.the-variants.{Sound}
 use Rattle.files_check.specs.RowsFile.{rowsIn, rowsCheck, judgedBy, judgedOf, verdictsBy, verdictsAfter}
 use Rattle.files_check.specs.declared.Judged.{Judged}
 use Rattle.files_check.proofs.Sound.{few-rows}

@@ -5,7 +5,7 @@ use mathlib.Core.List.{List}
 use borrow.Author.Needs.{needs}
 use borrow.Author.Tests.{le-leb, lt-leb}
 use lib.ListN.{length}
-use Rattle.files_sections.specs.declared.checks.Check.the-variants.{Sound}
+use Rattle.files_checks.specs.declared.Check.the-variants.{Sound}
 use Rattle.files_check.specs.RowsFile.{judgedBy, withVerdicts, verdictsBy}
 use Rattle.files_check.proofs.judge_rows.Statement.{statement}
 use Rattle.files_check.proofs.judge_rows.Tie as tie
@@ -18,20 +18,11 @@ module _ (file : List ℕ) (rows : ℕ) (run : List ℕ) where
       → (record { number = 0; «place_or_rows» = rows } ≡ judgedBy Sound rows (length run)) × (now ≡ verdictsBy Sound file rows run)
   long-enough h e = (rw (le-leb rows (length run) h), rw (le-leb rows (length run) h) e)
 
-returns : tie.Need-returns
-returns c = too-short _ _ _ (c .if1 .taken)
-
-put-verdicts-requires : tie.Need-put-verdicts-requires
-put-verdicts-requires c κs = (c .before .before .before .before .pre, c .before .if1 .left)
-
-returns-2 : tie.Need-returns-2
-returns-2 c = long-enough _ _ _ (c .before .before .before .before .if1 .left) (c .before .before .put-verdicts .ensures)
-
 pub judge-rows-spec : {M : Type 1} → statement M
 judge-rows-spec =
     tie.close
     (tie.spec
-    returns
-    put-verdicts-requires
+    (λ c. too-short _ _ _ (c .if1 .taken))
+    (λ c κs. search needs)
     (λ c. search needs)
-    returns-2)
+    (λ c. long-enough _ _ _ (c .before .before .before .before .if1 .left) (c .before .before .put-verdicts .ensures)))

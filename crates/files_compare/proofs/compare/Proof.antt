@@ -5,12 +5,6 @@ use Rattle.files_compare.proofs.Orders.{refuses-in-order, keeps-or-tell
 use Rattle.files_compare.proofs.compare.Statement.{statement}
 use Rattle.files_compare.proofs.compare.Tie as tie
 
-compare-with-requires : tie.Need-compare-with-requires
-compare-with-requires c κs = sym (c .before .before .before .check-results .ensures) ∙ c .before .enum-told .given .1
-
-returns : tie.Need-returns
-returns c = c .before .before .compare-with .ensures
-
 returns-2 : tie.Need-returns-2
 returns-2 c =
     let a = c .before .before .before .before .before .before .before .args in
@@ -24,8 +18,8 @@ compare-spec =
     (tie.spec
     (λ c κs. search needs)
     (λ c. search needs)
-    compare-with-requires
+    (λ c κs. sym (c .before .before .before .check-results .ensures) ∙ c .before .enum-told .given .1)
     (λ c. search needs)
     (λ c. search needs)
-    returns
+    (λ c. search needs)
     returns-2)

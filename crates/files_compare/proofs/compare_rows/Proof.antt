@@ -7,10 +7,10 @@ use borrow.Author.Needs.{needs}
 use lib.ListN.{length}
 use Rattle.files_words.specs.Bytes.{put}
 use Rattle.files_words.proofs.PutLaws.{put-nothing}
-use Rattle.files_sections.specs.ResultLayout.{figuresOfRow}
-use Rattle.files_told.specs.declared.told.Largest.{Largest}
-use Rattle.files_told.specs.declared.told.Largest.the-variants as largest
-use Rattle.files_compare.specs.Compare.{rowTold, rowAt, rowsTold, largestInRow, largestOf, toldWords}
+use Rattle.files_formats.specs.Rows.{resultFigures, toldWidth}
+use Rattle.files_differences.specs.declared.told.Largest.{Largest}
+use Rattle.files_differences.specs.declared.told.Largest.the-variants as largest
+use Rattle.files_compare.specs.Compare.{rowTold, rowAt, rowsTold, largestInRow, largestOf}
 use Rattle.files_compare.proofs.Steps.{next-row}
 use Rattle.files_compare.proofs.compare_rows.Statement.{statement}
 use Rattle.files_compare.proofs.compare_rows.Tie as tie
@@ -23,15 +23,15 @@ module _ (left right run : List ℕ) where
   unfolding rowsTold largestOf
   start n e = (sym (ap toldTo e ∙ put-nothing run 0 (omega arith)), sym (ap (largestOf left right) e))
 
-  next : (count rest k : ℕ) → k ≡ count - rest → 0 < rest → rest ≤ count → toldWords * count ≤ length run →
-      {now : List ℕ} → now ≡ toldTo k → {after : List ℕ} → after ≡ put now (toldWords * k) (rowTold (rowAt left k) (rowAt right k)) →
-      {l : Largest} → l ≡ largestOf left right k → {m : Largest} → m ≡ largestInRow (rowAt left k) (rowAt right k) l k figuresOfRow →
+  next : (count rest k : ℕ) → k ≡ count - rest → 0 < rest → rest ≤ count → count * toldWidth ≤ length run →
+      {now : List ℕ} → now ≡ toldTo k → {after : List ℕ} → after ≡ put now (k * toldWidth) (rowTold (rowAt left k) (rowAt right k)) →
+      {l : Largest} → l ≡ largestOf left right k → {m : Largest} → m ≡ largestInRow (rowAt left k) (rowAt right k) l k resultFigures →
       (after ≡ toldTo (count - (rest - 1))) × (m ≡ largestOf left right (count - (rest - 1)))
   unfolding largestOf
   next count rest k ek h l fits en ea el em =
       let e : suc k ≡ count - (rest - 1) = omega arith in (
-        ea ∙ ap (λ (r : List ℕ). put r (toldWords * k) (rowTold (rowAt left k) (rowAt right k))) en ∙ next-row left right run k (omega arith) ∙ ap toldTo e,
-        em ∙ ap (λ (x : Largest). largestInRow (rowAt left k) (rowAt right k) x k figuresOfRow) el ∙ ap (largestOf left right) e,
+        ea ∙ ap (λ (r : List ℕ). put r (k * toldWidth) (rowTold (rowAt left k) (rowAt right k))) en ∙ next-row left right run k (omega arith) ∙ ap toldTo e,
+        em ∙ ap (λ (x : Largest). largestInRow (rowAt left k) (rowAt right k) x k resultFigures) el ∙ ap (largestOf left right) e,
       )
 
 abbrev Inv-loop : tie.InvT-loop
@@ -51,17 +51,6 @@ loop-holds c =
     let s = start (a .left .now) (a .right .now) (a .run .now) (a .count - a .count) none in
     (omega arith, refl, s .0, s .1)
 
-compare-row-requires : tie.Need-compare-row-requires Inv-loop μ-loop
-compare-row-requires c κs =
-    let p = c .before .before .before .before .before .before in
-    let l = c .before .before .loop in
-    let more = c .before .loop-test .taken in (
-      omega (arith, p .pre .0, more, l .inv .0),
-      omega (arith, p .pre .1, more, l .inv .0, l .inv .1),
-      omega (arith, p .pre .2, more, l .inv .0),
-      omega (arith, p .pre .3, more, l .inv .0),
-    )
-
 loop-again : tie.Need-loop-again Inv-loop μ-loop
 loop-again c =
     let row = c .before .before .compare-row in
@@ -73,9 +62,6 @@ loop-again c =
     next (a .left .now) (a .right .now) (a .run .now) (a .count) (l .rest) _ refl more (l .inv .0) (p .pre .1) (l .inv .2) (row .ensures .0) (l .inv .3) (row .ensures .1)
     in
     (omega arith, row .kept .1 .1 .1 .0 ∙ l .inv .1, n .0, n .1)
-
-same-length : tie.Need-same-length Inv-loop μ-loop
-same-length c = c .before .loop .inv .1
 
 returns : tie.Need-returns Inv-loop μ-loop
 returns c =
@@ -94,9 +80,9 @@ compare-rows-spec =
     μ-loop
     loop-holds
     (λ c. search needs)
-    compare-row-requires
+    (λ c κs. search needs)
     (λ c. search needs)
     (λ c. search needs)
     loop-again
-    same-length
+    (λ c. search needs)
     returns)

@@ -7,13 +7,13 @@ use borrow.Author.Needs.{needs}
 use lib.ListN.{length, drop}
 use Rattle.files_words.specs.Bytes.{put}
 use Rattle.files_words.proofs.PutLaws.{put-fits}
-use Rattle.files_sections.specs.declared.checks.Check.the-variants.{Sound}
-use Rattle.files_sections.specs.ResultLayout.{rowPlace}
-use Rattle.files_told.specs.declared.told.Largest.{Largest}
-use Rattle.files_told.specs.declared.told.Side.the-variants as side
-use Rattle.files_told.specs.declared.told.Comparison.{Comparison}
-use Rattle.files_told.specs.declared.told.Comparison.the-variants as comparison
-use Rattle.files_compare.specs.Compare.{mostRows, resultsCheck, rowCount, rowsTold, largestOf, toldWords, comparisonOf, runAfter}
+use Rattle.files_checks.specs.declared.Check.the-variants.{Sound}
+use Rattle.files_formats.specs.Rows.{mostResults, resultPlace, toldWidth}
+use Rattle.files_differences.specs.declared.told.Largest.{Largest}
+use Rattle.files_differences.specs.declared.told.Side.the-variants as side
+use Rattle.files_differences.specs.declared.told.Comparison.{Comparison}
+use Rattle.files_differences.specs.declared.told.Comparison.the-variants as comparison
+use Rattle.files_compare.specs.Compare.{resultsCheck, rowCount, rowsTold, largestOf, comparisonOf, runAfter}
 use Rattle.files_compare.proofs.Steps.{rows-length}
 use Rattle.files_compare.proofs.Orders.{sound-so, refuses-in-order, keeps-or-tells}
 use Rattle.files_compare.proofs.compare_sound.Statement.{statement}
@@ -29,17 +29,17 @@ module _ (left right run : List ℕ) (sound : (resultsCheck left ≡ Sound) × (
         let e = refuses-in-order left right (length run) .then-51 (sound .0) (sound .1) (λ q. h (ev ∙ q ∙ sym ew)) in
         (sym e, sym (keeps-or-tells left right run .kept _ _ _ e))
 
-    too-short : v ≡ w → length run < toldWords * v → Right (comparison.Refused 26 side.Neither (toldWords * v)) run
+    too-short : v ≡ w → length run < v * toldWidth → Right (comparison.Refused 26 side.Neither (v * toldWidth)) run
     too-short h s =
         let e = refuses-in-order left right (length run) .then-26 (sound .0) (sound .1) (sym ev ∙ h ∙ ew) (omega (arith, ev)) in
-        (ap (λ (n : ℕ). comparison.Refused 26 side.Neither (toldWords * n)) ev ∙ sym e, sym (keeps-or-tells left right run .kept _ _ _ e))
+        (ap (λ (n : ℕ). comparison.Refused 26 side.Neither (n * toldWidth)) ev ∙ sym e, sym (keeps-or-tells left right run .kept _ _ _ e))
 
-    told : v ≡ w → toldWords * v ≤ length run → {l : Largest} → l ≡ largestOf left right v → {after : List ℕ} → after ≡ put run 0 (rowsTold left right v) → Right (comparison.Compared v l) after
+    told : v ≡ w → v * toldWidth ≤ length run → {l : Largest} → l ≡ largestOf left right v → {after : List ℕ} → after ≡ put run 0 (rowsTold left right v) → Right (comparison.Compared v l) after
     told h s el ea =
         let e = refuses-in-order left right (length run) .else-compared (sound .0) (sound .1) (sym ev ∙ h ∙ ew) (omega (arith, ev)) in
         let n = rowCount left in
         let words = rows-length left right n in
-        let end : 0 + length (rowsTold left right n) ≡ toldWords * n = omega (arith, words) in (
+        let end : 0 + length (rowsTold left right n) ≡ n * toldWidth = omega (arith, words) in (
           (λ i. comparison.Compared (ev i) ((el ∙ ap (largestOf left right) ev) i)) ∙ sym e,
           ea
               ∙ ap (λ (k : ℕ). put run 0 (rowsTold left right k)) ev
@@ -48,11 +48,11 @@ module _ (left right run : List ℕ) (sound : (resultsCheck left ≡ Sound) × (
               ∙ sym (keeps-or-tells left right run .told _ _ e),
         )
 
-few : (left : List ℕ) → resultsCheck left ≡ Sound → {v : ℕ} → v ≡ rowCount left → v ≤ mostRows
+few : (left : List ℕ) → resultsCheck left ≡ Sound → {v : ℕ} → v ≡ rowCount left → v ≤ mostResults
 few left sound ev = omega (arith, ev, sound-so left sound .few)
 
 -- The rows that a sound file counts are there.
-there : (file : List ℕ) → resultsCheck file ≡ Sound → {v : ℕ} → v ≡ rowCount file → rowPlace v ≤ length file
+there : (file : List ℕ) → resultsCheck file ≡ Sound → {v : ℕ} → v ≡ rowCount file → resultPlace v ≤ length file
 there file sound ev = omega (arith, ev, sound-so file sound .size)
 
 returns : tie.Need-returns

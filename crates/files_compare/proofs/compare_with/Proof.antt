@@ -9,9 +9,6 @@ compare-sound-requires : tie.Need-compare-sound-requires
 compare-sound-requires c κs =
     (c .before .before .before .before .before .before .before .pre, sym (c .before .before .before .check-results .ensures) ∙ c .before .enum-told .given .1)
 
-returns : tie.Need-returns
-returns c = c .before .before .compare-sound .ensures
-
 returns-2 : tie.Need-returns-2
 returns-2 c =
     let p = c .before .before .before .before .before .before .before in
@@ -29,5 +26,5 @@ compare-with-spec =
     compare-sound-requires
     (λ c. search needs)
     (λ c. search needs)
-    returns
+    (λ c. search needs)
     returns-2)

@@ -7,9 +7,9 @@ use borrow.Author.Needs.{needs}
 use lib.ListN.{length, getD, set, length-set}
 use Rattle.files_words.specs.Bytes.{put}
 use Rattle.files_words.proofs.PutLaws.{put-byte, put-next}
-use Rattle.files_told.specs.declared.told.Figure.{Figure}
-use Rattle.files_told.specs.declared.told.Figure.the-variants as figure
-use Rattle.files_told.specs.Told.{figureWords}
+use Rattle.files_differences.specs.declared.told.Figure.{Figure}
+use Rattle.files_differences.specs.declared.told.Figure.the-variants as figure
+use Rattle.files_differences.specs.Told.{figureWords}
 use Rattle.files_compare.proofs.put_figure.Statement.{statement}
 use Rattle.files_compare.proofs.put_figure.Tie as tie
 
@@ -33,9 +33,6 @@ told run at f {ws} h e =
     ∙ stored run at (getD (figureWords f) 0 0) (getD (figureWords f) 1 0) h
     ∙ ap (put run at) (sym (two f))
 
-slice-write-run-2 : tie.Need-slice-write-run-2
-slice-write-run-2 c = simp length-set (omega (arith, c .before .before .pre))
-
 returns : tie.Need-returns
 returns c =
     let a = c .before .before .args in
@@ -52,6 +49,6 @@ put-figure-spec =
     (λ c. search needs)
     (λ c. search needs)
     (λ c. search needs)
-    slice-write-run-2
+    (λ c. simp length-set (omega (arith, c .before .before .pre)))
     (λ c. search needs)
     returns)

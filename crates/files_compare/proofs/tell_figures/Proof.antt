@@ -7,19 +7,19 @@ use borrow.Author.Needs.{needs}
 use lib.ListN.{length}
 use Rattle.files_words.specs.Bytes.{put}
 use Rattle.files_words.proofs.PutLaws.{put-nothing}
-use Rattle.files_sections.specs.ResultLayout.{rowFigures, figuresOfRow}
-use Rattle.files_told.specs.declared.told.RowKind.{RowKind}
-use Rattle.files_told.specs.declared.told.Figure.{Figure}
-use Rattle.files_told.specs.declared.told.Largest.{Largest}
-use Rattle.files_told.specs.Told.{figureIn, figureWords, largestWith}
-use Rattle.files_compare.specs.Compare.{wordIn, kindOn, figureOn, figuresTold, largestInRow, toldWords}
+use Rattle.files_formats.specs.Rows.{resultFigure, resultFigures, toldWidth}
+use Rattle.files_differences.specs.declared.told.RowKind.{RowKind}
+use Rattle.files_differences.specs.declared.told.Figure.{Figure}
+use Rattle.files_differences.specs.declared.told.Largest.{Largest}
+use Rattle.files_differences.specs.Told.{figureIn, figureWords, largestWith}
+use Rattle.files_compare.specs.Compare.{wordOn, kindOn, figureOn, figuresTold, largestInRow}
 use Rattle.files_compare.proofs.Steps.{next-figure}
 use Rattle.files_compare.proofs.tell_figures.Statement.{statement}
 use Rattle.files_compare.proofs.tell_figures.Tie as tie
 
 module _ (l r run : List ℕ) (k : ℕ) (known : Largest) where
   abbrev at : ℕ
-  at = toldWords * k + 1
+  at = k * toldWidth + 1
 
   -- The run and the largest after n figures.
   abbrev toldTo : (n : ℕ) → List ℕ
@@ -32,27 +32,27 @@ module _ (l r run : List ℕ) (k : ℕ) (known : Largest) where
   unfolding figuresTold largestInRow
   start h = (sym (put-nothing run at h), refl)
 
-  next : (rest j : ℕ) → j ≡ figuresOfRow - rest → 0 < rest → rest ≤ figuresOfRow → toldWords * k + toldWords ≤ length run →
+  next : (rest j : ℕ) → j ≡ resultFigures - rest → 0 < rest → rest ≤ resultFigures → k * toldWidth + toldWidth ≤ length run →
       {kind : RowKind} → kind ≡ kindOn l r →
-      {v w : ℕ} → v ≡ wordIn l (rowFigures + j) → w ≡ wordIn r (rowFigures + j) →
+      {v w : ℕ} → v ≡ wordOn l (resultFigure + j) → w ≡ wordOn r (resultFigure + j) →
       {f : Figure} → f ≡ figureIn kind v w →
       {now : List ℕ} → now ≡ toldTo j → {after : List ℕ} → after ≡ put now (at + 2 * j) (figureWords f) →
-      {x : Largest} → x ≡ largestTo j → {y : Largest} → y ≡ largestWith x k (rowFigures + j) f →
-      (after ≡ toldTo (figuresOfRow - (rest - 1))) × (y ≡ largestTo (figuresOfRow - (rest - 1)))
+      {x : Largest} → x ≡ largestTo j → {y : Largest} → y ≡ largestWith x k (resultFigure + j) f →
+      (after ≡ toldTo (resultFigures - (rest - 1))) × (y ≡ largestTo (resultFigures - (rest - 1)))
   unfolding largestInRow
   next rest j ej h few fits er ev ew ef en ea ex ey =
-      let e : suc j ≡ figuresOfRow - (rest - 1) = omega arith in
+      let e : suc j ≡ resultFigures - (rest - 1) = omega arith in
       let told : _ ≡ figureOn l r j = ef ∙ (λ i. figureIn (er i) (ev i) (ew i)) in (
         ea ∙ (λ i. put (en i) (at + 2 * j) (figureWords (told i))) ∙ next-figure l r run at j (omega arith) ∙ ap toldTo e,
-        ey ∙ (λ i. largestWith (ex i) k (rowFigures + j) (told i)) ∙ ap largestTo e,
+        ey ∙ (λ i. largestWith (ex i) k (resultFigure + j) (told i)) ∙ ap largestTo e,
       )
 
 abbrev Inv-loop : tie.InvT-loop
 Inv-loop l r k kind run₀ largest₀ rest₀ run largest rest =
-    (rest ≤ figuresOfRow)
+    (rest ≤ resultFigures)
     × (length run ≡ length run₀)
-    × (run ≡ toldTo l r run₀ k largest₀ (figuresOfRow - rest))
-    × (largest ≡ largestTo l r run₀ k largest₀ (figuresOfRow - rest))
+    × (run ≡ toldTo l r run₀ k largest₀ (resultFigures - rest))
+    × (largest ≡ largestTo l r run₀ k largest₀ (resultFigures - rest))
 
 abbrev μ-loop : tie.MeasureT-loop
 μ-loop l r k kind run₀ largest₀ rest₀ run largest rest = rest
@@ -63,24 +63,6 @@ loop-holds c =
     let a = p .args in
     let s = start (a .l .now) (a .r .now) (a .run .now) (a .k) (a .known) (omega (arith, p .pre .1)) in
     (omega arith, refl, s .0, s .1)
-
-mul-put-figure : tie.Need-mul-put-figure Inv-loop μ-loop
-mul-put-figure c = omega (arith, c .before .before .before .before .before .before .before .before .before .pre .0)
-
-add-put-figure : tie.Need-add-put-figure Inv-loop μ-loop
-add-put-figure c = omega (arith, c .before .before .before .before .before .before .before .before .before .pre .0)
-
-mul-put-figure-2 : tie.Need-mul-put-figure-2 Inv-loop μ-loop
-mul-put-figure-2 c = omega arith
-
-add-put-figure-2 : tie.Need-add-put-figure-2 Inv-loop μ-loop
-add-put-figure-2 c = omega (arith, c .before .before .before .before .before .before .before .before .before .pre .0)
-
-put-figure-requires : tie.Need-put-figure-requires Inv-loop μ-loop
-put-figure-requires c κs =
-    let p = c .before .before .before .before .before .before .before .before .before in
-    let l = c .before .before .before .before .before .loop in
-    omega (arith, p .pre .1, l .inv .1, c .before .before .before .before .loop-test .taken)
 
 loop-again : tie.Need-loop-again Inv-loop μ-loop
 loop-again c =
@@ -98,14 +80,11 @@ loop-again c =
     in
     (omega arith, put .kept .0 ∙ l .inv .1, n .0, n .1)
 
-same-length : tie.Need-same-length Inv-loop μ-loop
-same-length c = c .before .loop .inv .1
-
 returns : tie.Need-returns Inv-loop μ-loop
 returns c =
     let a = c .before .before .before .before .before .args in
     let l = c .before .loop in
-    let e : figuresOfRow - l .rest ≡ figuresOfRow = omega arith in (
+    let e : resultFigures - l .rest ≡ resultFigures = omega arith in (
       l .inv .2 ∙ ap (toldTo (a .l .now) (a .r .now) (a .run .now) (a .k) (a .known)) e,
       l .inv .3 ∙ ap (largestTo (a .l .now) (a .r .now) (a .run .now) (a .k) (a .known)) e,
     )
@@ -124,14 +103,14 @@ tell-figures-spec =
     (λ c. search needs)
     (λ c κs. search needs)
     (λ c κs. search needs)
-    mul-put-figure
-    add-put-figure
-    mul-put-figure-2
-    add-put-figure-2
-    put-figure-requires
+    (λ c. search needs)
+    (λ c. search needs)
+    (λ c. search needs)
+    (λ c. search needs)
+    (λ c κs. search needs)
     (λ c κs. search needs)
     (λ c. search needs)
     (λ c. search needs)
     loop-again
-    same-length
+    (λ c. search needs)
     returns)

@@ -7,26 +7,26 @@ use borrow.Author.Needs.{needs}
 use lib.ListN.{length, set, length-set}
 use Rattle.files_words.specs.Bytes.{put}
 use Rattle.files_words.proofs.PutLaws.{put-byte, put-next}
-use Rattle.files_sections.specs.ResultLayout.{rowRefusal, figuresOfRow}
-use Rattle.files_told.specs.declared.told.RowKind.{RowKind}
-use Rattle.files_told.specs.Told.{rowKindOf, rowKindWord}
-use Rattle.files_compare.specs.Compare.{wordIn, kindOn, figuresTold, rowTold, toldWords}
+use Rattle.files_formats.specs.Rows.{resultRefusal, resultFigures, toldWidth}
+use Rattle.files_differences.specs.declared.told.RowKind.{RowKind}
+use Rattle.files_differences.specs.Told.{rowKindOf, rowKindWord}
+use Rattle.files_compare.specs.Compare.{wordOn, kindOn, figuresTold, rowTold}
 use Rattle.files_compare.proofs.Steps.{figures-length}
 use Rattle.files_compare.proofs.tell_row.Statement.{statement}
 use Rattle.files_compare.proofs.tell_row.Tie as tie
 
 module _ (l r : List ℕ) (k : ℕ) where
-  are : {v w : ℕ} → v ≡ wordIn l rowRefusal → w ≡ wordIn r rowRefusal → {kind : RowKind} → kind ≡ rowKindOf v w → kind ≡ kindOn l r
+  are : {v w : ℕ} → v ≡ wordOn l resultRefusal → w ≡ wordOn r resultRefusal → {kind : RowKind} → kind ≡ rowKindOf v w → kind ≡ kindOn l r
   are ev ew er = er ∙ (λ i. rowKindOf (ev i) (ew i))
 
-  told : (run : List ℕ) → toldWords * k + toldWords ≤ length run → {kind : RowKind} → kind ≡ kindOn l r → {w : ℕ} → w ≡ rowKindWord kind →
-      {after : List ℕ} → after ≡ put (set run (toldWords * k) w) (toldWords * k + 1) (figuresTold l r figuresOfRow) → after ≡ put run (toldWords * k) (rowTold l r)
+  told : (run : List ℕ) → k * toldWidth + toldWidth ≤ length run → {kind : RowKind} → kind ≡ kindOn l r → {w : ℕ} → w ≡ rowKindWord kind →
+      {after : List ℕ} → after ≡ put (set run (k * toldWidth) w) (k * toldWidth + 1) (figuresTold l r resultFigures) → after ≡ put run (k * toldWidth) (rowTold l r)
   told run fits {kind} er {w} ew ea =
-      let at = toldWords * k in
-      let figures = figuresTold l r figuresOfRow in
+      let at = k * toldWidth in
+      let figures = figuresTold l r resultFigures in
       ea
       ∙ ap (λ (l : List ℕ). put l (at + 1) figures) (put-byte run at w (omega arith))
-      ∙ put-next run (w ∷ []) figures at (at + 1) refl (omega (arith, figures-length l r figuresOfRow))
+      ∙ put-next run (w ∷ []) figures at (at + 1) refl (omega (arith, figures-length l r resultFigures))
       ∙ ap (λ (n : ℕ). put run at (n ∷ figures)) (ew ∙ ap rowKindWord er)
 
 tell-figures-requires : tie.Need-tell-figures-requires
@@ -38,7 +38,7 @@ tell-figures-requires c κs =
 same-length : tie.Need-same-length
 same-length c =
     let a = c .before .before .before .before .before .before .before .before .before .before .before .args in
-    c .before .before .tell-figures .kept .1 .1 .1 .1 .0 ∙ length-set (a .run .now) (toldWords * a .k) (c .before .before .before .before .row-kind-word .result)
+    c .before .before .tell-figures .kept .1 .1 .1 .1 .0 ∙ length-set (a .run .now) (a .k * toldWidth) (c .before .before .before .before .row-kind-word .result)
 
 returns : tie.Need-returns
 returns c =

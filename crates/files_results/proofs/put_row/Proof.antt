@@ -8,16 +8,10 @@ use lib.ListN.{length, take, length-take}
 use Rattle.states_arcs.specs.Results.{figuresOf}
 use Rattle.states.specs.Call.{answerWords, propagateOf}
 use Rattle.files_words.specs.Bytes.{asBytes, put}
-use Rattle.files_reader.proofs.Accepted.{accepted-counts}
-use Rattle.files_sections.specs.ResultLayout.{rowWords}
+use Rattle.files_formats.specs.Rows.{resultWidth}
 use Rattle.files_results.specs.Results.{rowOf}
 use Rattle.files_results.proofs.put_row.Statement.{statement}
 use Rattle.files_results.proofs.put_row.Tie as tie
-
-row-place-requires : tie.Need-row-place-requires
-row-place-requires c κs =
-    let p = c .before .before .before .before .before .before in
-    omega (arith, accepted-counts (p .args .file .now) (p .args .places) (p .pre .0), p .pre .1)
 
 slice-aggregate-put-words : tie.Need-slice-aggregate-put-words
 unfolding answerWords figuresOf
@@ -32,7 +26,7 @@ returns c =
     let a = w .before .before .before .before .before .args in
     let words = w .words-of .ensures ∙ ap answerWords (w .before .propagate .ensures ∙ ap propagateOf (w .before .before .request-words .ensures)) in
     c .before .before .put-words .ensures
-    ∙ ap₂ (λ (p : ℕ) (words : List ℕ). put (a .room .now) p (asBytes (take rowWords words))) (c .before .before .before .before .row-place .ensures) words
+    ∙ ap₂ (λ (p : ℕ) (words : List ℕ). put (a .room .now) p (asBytes (take resultWidth words))) (c .before .before .before .before .row-place .ensures) words
 
 pub put-row-spec : {M : Type 1} → statement M
 put-row-spec =
@@ -41,7 +35,7 @@ put-row-spec =
     (λ c κs. search needs)
     (λ c κs. search needs)
     (λ c κs. search needs)
-    row-place-requires
+    (λ c κs. search needs)
     (λ c. search needs)
     slice-aggregate-put-words
     (λ c κs. search needs)

@@ -1,54 +1,48 @@
 -- The head and the rows fit, or nothing is written.
-use Prim.Native.Nat.{ℕ, _≤_}
+use Prim.Native.Nat.{_≤_}
 use mathlib.Core.Path.{_≡_, _∙_, ap, sym}
-use mathlib.Core.List.{List}
 use native.Mathlib.Omega.{arith}
 use borrow.Author.Needs.{needs}
 use lib.ListN.{length}
 use Rattle.files_words.specs.Bytes.{asBytes}
 use Rattle.files_results.proofs.Rows.{result-length, all-rows, too-short, long-enough}
-use Rattle.files_reader.proofs.Accepted.{accepted-counts}
-use Rattle.files_sections.specs.ResultLayout.{rowPlace}
+use Rattle.files_formats.specs.Rows.{resultPlace}
 use Rattle.files_results.specs.Results.{sectionsWords, withRows}
 use Rattle.files_results.proofs.write_accepted.Statement.{statement}
 use Rattle.files_results.proofs.write_accepted.Tie as tie
 
-row-place-requires : tie.Need-row-place-requires
-row-place-requires c κs =
-    let p = c .before .before in
-    omega (arith, accepted-counts (p .args .file .now) (p .args .places) (p .pre))
-
 -- the size that was worked out is the result file's
 sized : (c : tie.After-row-place) →
     let a = c .before .before .before .args in
-    length (asBytes (sectionsWords (a .file .now) (a .places))) ≡ c .row-place .result
+    length (asBytes (sectionsWords (a .file .now) (a .shape))) ≡ c .row-place .result
 sized c =
     let a = c .before .before .before .args in
-    result-length (a .file .now) (a .places) ∙ sym (c .row-place .ensures)
+    result-length (a .file .now) (a .shape) ∙ sym (c .row-place .ensures)
 
 returns : tie.Need-returns
 returns c =
     let a = c .before .before .before .before .args in
-    too-short (asBytes (sectionsWords (a .file .now) (a .places))) _ (sized (c .before)) (c .if1 .taken)
+    too-short (asBytes (sectionsWords (a .file .now) (a .shape))) _ (sized (c .before)) (c .if1 .taken)
 
 returns-2 : tie.Need-returns-2
 returns-2 c =
     let p = c .before .before .before .before .before .before .before .before .before in
     let a = p .before .before .before .before .args in
     let file = a .file .now in
-    let long : rowPlace (a .places .requests .count) ≤ length (a .room .now) = omega (arith, p .if1 .left, p .before .row-place .ensures) in (
-      long-enough (asBytes (sectionsWords file (a .places))) (a .room .now) (sized (p .before)) (p .if1 .left),
+    let long : resultPlace (a .shape .requests) ≤ length (a .room .now) = omega (arith, p .if1 .left, p .before .row-place .ensures) in (
+      long-enough (asBytes (sectionsWords file (a .shape))) (a .room .now) (sized (p .before)) (p .if1 .left),
       c .before .before .put-rows .ensures
-          ∙ ap (withRows file (a .places) (a .places .requests .count)) (c .before .before .before .before .before .before .put-words .ensures)
-          ∙ all-rows file (a .places) (a .room .now) long,
+          ∙ ap (withRows file (a .shape) (a .shape .requests)) (c .before .before .before .before .before .before .put-words .ensures)
+          ∙ all-rows file (a .shape) (a .room .now) long,
     )
 
 pub write-accepted-spec : {M : Type 1} → statement M
 write-accepted-spec =
     tie.close
     (tie.spec
-    row-place-requires
+    (λ c κs. search needs)
     returns
+    (λ c. search needs)
     (λ c. search needs)
     (λ c κs. search needs)
     (λ c κs. search needs)

@@ -17,27 +17,6 @@ Inv-loop room₀ place word rest₀ left₀ room rest left =
 abbrev μ-loop : tie.MeasureT-loop
 μ-loop room₀ place word rest₀ left₀ room rest left = left
 
-loop-holds : tie.Need-loop-holds Inv-loop μ-loop
-loop-holds c = (omega arith, refl, simp add-zero)
-
-cast-room : tie.Need-cast-room Inv-loop μ-loop
-cast-room c = search needs
-
-sub-room : tie.Need-sub-room Inv-loop μ-loop
-sub-room c = search needs
-
-add-room : tie.Need-add-room Inv-loop μ-loop
-add-room c = search needs
-
-slice-write-room : tie.Need-slice-write-room Inv-loop μ-loop
-slice-write-room c = search needs
-
-sub-left : tie.Need-sub-left Inv-loop μ-loop
-sub-left c = search needs
-
-loop-less : tie.Need-loop-less Inv-loop μ-loop
-loop-less c = search needs
-
 loop-again : tie.Need-loop-again Inv-loop μ-loop
 loop-again c =
     let l = c .before .loop in
@@ -50,9 +29,6 @@ loop-again c =
           ∙ sym (lowest-stored (l .room) at (l .left) (l .left - 1) (l .rest) (omega arith) (omega arith))
           ∙ l .inv .2,
     )
-
-same-length : tie.Need-same-length Inv-loop μ-loop
-same-length c = search needs
 
 returns : tie.Need-returns Inv-loop μ-loop
 unfolding bytesOf
@@ -69,13 +45,13 @@ put-bytes-spec =
     (tie.spec
     Inv-loop
     μ-loop
-    loop-holds
-    cast-room
-    sub-room
-    add-room
-    slice-write-room
-    sub-left
-    loop-less
+    (λ c. (omega arith, refl, simp add-zero))
+    (λ c. search needs)
+    (λ c. search needs)
+    (λ c. search needs)
+    (λ c. search needs)
+    (λ c. search needs)
+    (λ c. search needs)
     loop-again
-    same-length
+    (λ c. search needs)
     returns)

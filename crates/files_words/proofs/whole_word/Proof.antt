@@ -20,18 +20,6 @@ loop-holds : tie.Need-loop-holds Inv-loop μ-loop
 unfolding numberOf
 loop-holds c = (omega arith, refl)
 
-sub-left : tie.Need-sub-left Inv-loop μ-loop
-sub-left c = search needs
-
-add-wide : tie.Need-add-wide Inv-loop μ-loop
-add-wide c = search needs
-
-shared-slice-read-wide : tie.Need-shared-slice-read-wide Inv-loop μ-loop
-shared-slice-read-wide c = search needs
-
-wide-requires : tie.Need-wide-requires Inv-loop μ-loop
-wide-requires c κs = search needs
-
 -- fewer than eight bytes so far
 small : (c : tie.After-wide Inv-loop μ-loop) → c .before .before .before .loop .word < 256 ^ 7
 small c =
@@ -41,15 +29,6 @@ small c =
     (number-bound 7 (8 - l .left) (drop (a .place + l .left) (a .file .now))
     (below-drop 256 (a .place + l .left) (a .file .now) (below-of 256 (a .file .now) (λ i. omega (arith, c .before .shared-slice-known2 .given i))))
     (omega arith))
-
-mul-word : tie.Need-mul-word Inv-loop μ-loop
-mul-word c = omega (arith, small c)
-
-add-word : tie.Need-add-word Inv-loop μ-loop
-add-word c = omega (arith, small c, c .wide .ensures .1)
-
-loop-less : tie.Need-loop-less Inv-loop μ-loop
-loop-less c = search needs
 
 loop-again : tie.Need-loop-again Inv-loop μ-loop
 loop-again c =
@@ -77,12 +56,12 @@ whole-word-spec =
     Inv-loop
     μ-loop
     loop-holds
-    sub-left
-    add-wide
-    shared-slice-read-wide
-    wide-requires
-    mul-word
-    add-word
-    loop-less
+    (λ c. search needs)
+    (λ c. search needs)
+    (λ c. search needs)
+    (λ c κs. search needs)
+    (λ c. omega (arith, small c))
+    (λ c. omega (arith, small c, c .wide .ensures .1))
+    (λ c. search needs)
     loop-again
     returns)

@@ -1,27 +1,21 @@
 -- A run of another length is left as it was, and the verdicts too; else the two words are written.
-use mathlib.Core.Path.{refl, ap}
+use mathlib.Core.Path.{refl, _∙_}
+use native.Mathlib.Omega.{arith}
 use borrow.Author.Needs.{needs}
-use Rattle.files_check.specs.declared.Judged.{Judged}
-use Rattle.kelubashi.specs.Face.{judgedWords}
-use Rattle.kelubashi.proofs.Face.{wrong-length, right-length, left-lent, made-lent}
+use borrow.Author.Tests.{eq-eqb, ne-eqb}
+use Rattle.bits.proofs.RunLaws.{copied-all}
 use Rattle.kelubashi.proofs.kelubashi1_check.Statement.{statement}
 use Rattle.kelubashi.proofs.kelubashi1_check.Tie as tie
 
 returns : tie.Need-returns
-returns c =
-    let a = c .before .before .before .before .args in
-    let w = wrong-length 2 (a .answer .now) (c .if1 .taken) _ _ in
-    (w .0, (w .1, left-lent 2 (a .answer .now) (c .if1 .taken) (a .verdicts .now) _))
+returns c = simp (ne-eqb _ 2 (c .if1 .taken)) (refl, (refl, refl))
 
 returns-2 : tie.Need-returns-2
 returns-2 c =
     let w = c .before .before in
     let f = w .before .before .before .before .before in
     let e = f .judge .ensures in
-    let args = f .before .before .before .before .before .before .args in
-    let same = f .before .before .if1 .left in
-    let a = right-length 2 _ same refl (ap (λ (j : Judged). j .number) (e .0)) (w .copy-words .ensures) (ap judgedWords (e .0)) in
-    (a .0, (a .1, made-lent 2 (args .answer .now) same (args .verdicts .now) (e .1)))
+    simp (eq-eqb _ 2 (f .before .before .if1 .left), ← (e .0)) (refl, (w .copy-words .ensures ∙ copied-all _ _ (omega arith), e .1))
 
 pub kelubashi1-check-spec : {M : Type 1} → statement M
 kelubashi1-check-spec =

@@ -1,5 +1,4 @@
 -- The bytes that were taken stand at the start of the buffer, which is longer than any file that is accepted.
-use native.Mathlib.Omega.{arith}
 use borrow.Author.Needs.{needs}
 use Rattle.streams.proofs.Parts.{taken}
 use Rattle.propagate.proofs.propagate.Statement.{statement}

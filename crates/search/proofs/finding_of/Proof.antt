@@ -3,18 +3,6 @@ use borrow.Author.Needs.{needs}
 use Rattle.search.proofs.finding_of.Statement.{statement}
 use Rattle.search.proofs.finding_of.Tie as tie
 
-returns : tie.Need-returns
-returns c = simp (c .before .before .before .next .given .1, c .anomaly-at .ensures, c .before .nearer-end .ensures)
-
-returns-2 : tie.Need-returns-2
-returns-2 c = simp (c .before .before .next2 .given .1, c .anomaly-at2 .ensures)
-
-returns-3 : tie.Need-returns-3
-returns-3 c = simp (c .before .next3 .given .1)
-
-returns-4 : tie.Need-returns-4
-returns-4 c = simp (c .before .next4 .given .1)
-
 pub finding-of-spec : {M : Type 1} → statement M
 finding-of-spec =
     tie.close
@@ -26,7 +14,7 @@ finding-of-spec =
     (λ c κs. search needs)
     (λ c. search needs)
     (λ c. search needs)
-    returns
-    returns-2
-    returns-3
-    returns-4)
+    (λ c. simp (c .before .before .before .next .given .1, c .anomaly-at .ensures, c .before .nearer-end .ensures))
+    (λ c. simp (c .before .before .next2 .given .1, c .anomaly-at2 .ensures))
+    (λ c. simp (c .before .next3 .given .1))
+    (λ c. simp (c .before .next4 .given .1)))

@@ -41,12 +41,6 @@ Inv-loop initial tau used pair₀ points₀ left₀ offered₀ pair points left 
 abbrev μ-loop : tie.MeasureT-loop
 μ-loop initial tau used pair₀ points₀ left₀ offered₀ pair points left offered = turnsLeft (eqb offered 0) left
 
-loop-holds : tie.Need-loop-holds Inv-loop μ-loop
-loop-holds c = (refl, omega arith, omega arith)
-
-is-wide-requires : tie.Need-is-wide-requires Inv-loop μ-loop
-is-wide-requires c κs = search needs
-
 returns : tie.Need-returns Inv-loop μ-loop
 returns c =
     let l = c .before .before .before .loop in
@@ -55,16 +49,10 @@ returns c =
     (sym (c .before .is-wide .ensures) ∙ not-true _ (c .if1 .taken))
     ∙ l .inv .0
 
-offer-requires : tie.Need-offer-requires Inv-loop μ-loop
-offer-requires c κs = search needs
-
 tried-requires : tie.Need-tried-requires Inv-loop μ-loop
 tried-requires c κs =
     let w = c .before .before in
     (sym (w .is-wide .ensures) ∙ not-false _ (c .before .if1 .left), omega (arith, w .before .before .loop .inv .1))
-
-enum-known-next : tie.Need-enum-known-next Inv-loop μ-loop
-enum-known-next c = search needs
 
 returns-2 : tie.Need-returns-2 Inv-loop μ-loop
 returns-2 c =
@@ -78,9 +66,6 @@ returns-2 c =
     handed-on (t .result) _ (c .match .keys2)
     ∙ search-turn (a .initial) (a .tau) (l .left) (l .points) (l .pair) some wide (eqb (l .offered) 0) (o .ensures) (t .ensures)
     ∙ l .inv .0
-
-rounds-after-requires : tie.Need-rounds-after-requires Inv-loop μ-loop
-rounds-after-requires c κs = search needs
 
 loop-less : tie.Need-loop-less Inv-loop μ-loop
 loop-less c =
@@ -120,14 +105,14 @@ inward-spec =
     (tie.spec
     Inv-loop
     μ-loop
-    loop-holds
-    is-wide-requires
+    (λ c. (refl, omega arith, omega arith))
+    (λ c κs. search needs)
     returns
-    offer-requires
+    (λ c κs. search needs)
     tried-requires
-    enum-known-next
+    (λ c. search needs)
     returns-2
-    rounds-after-requires
+    (λ c κs. search needs)
     loop-less
     loop-again
     returns-3)

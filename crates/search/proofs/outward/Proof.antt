@@ -19,21 +19,6 @@ Inv-loop initial tau first short₀ place₀ points₀ left₀ short place point
 abbrev μ-loop : tie.MeasureT-loop
 μ-loop initial tau first short₀ place₀ points₀ left₀ short place points left = left
 
-loop-holds : tie.Need-loop-holds Inv-loop μ-loop
-loop-holds c = (refl, omega arith, omega arith)
-
-add-outward-step : tie.Need-add-outward-step Inv-loop μ-loop
-add-outward-step c = omega arith
-
-outward-step-requires : tie.Need-outward-step-requires Inv-loop μ-loop
-outward-step-requires c κs = search needs
-
-enum-known-step : tie.Need-enum-known-step Inv-loop μ-loop
-enum-known-step c = search needs
-
-enum-known-step-2 : tie.Need-enum-known-step-2 Inv-loop μ-loop
-enum-known-step-2 c = search needs
-
 returns : tie.Need-returns Inv-loop μ-loop
 returns c =
     let l = c .before .before .before .before .before .loop in
@@ -43,18 +28,6 @@ returns c =
     (sym (c .before .before .before .outward-step .ensures) ∙ c .before .step2 .given .1)
     ∙ sym (outward-turn ev (l .left) (l .points) (l .place) (l .short) (c .before .before .before .before .loop-test .taken))
     ∙ l .inv .0
-
-add-place : tie.Need-add-place Inv-loop μ-loop
-add-place c = omega (arith, c .before .before .before .before .before .before .before .pre)
-
-add-points : tie.Need-add-points Inv-loop μ-loop
-add-points c = omega arith
-
-sub-left : tie.Need-sub-left Inv-loop μ-loop
-sub-left c = omega arith
-
-loop-less : tie.Need-loop-less Inv-loop μ-loop
-loop-less c = omega arith
 
 loop-again : tie.Need-loop-again Inv-loop μ-loop
 loop-again c =
@@ -81,15 +54,15 @@ outward-spec =
     (tie.spec
     Inv-loop
     μ-loop
-    loop-holds
-    add-outward-step
-    outward-step-requires
-    enum-known-step
-    enum-known-step-2
+    (λ c. (refl, omega arith, omega arith))
+    (λ c. omega arith)
+    (λ c κs. search needs)
+    (λ c. search needs)
+    (λ c. search needs)
     returns
-    add-place
-    add-points
-    sub-left
-    loop-less
+    (λ c. omega (arith, c .before .before .before .before .before .before .before .pre))
+    (λ c. omega arith)
+    (λ c. omega arith)
+    (λ c. omega arith)
     loop-again
     returns-2)

@@ -3,13 +3,10 @@ use borrow.Author.Needs.{needs}
 use Rattle.search.proofs.outward_step.Statement.{statement}
 use Rattle.search.proofs.outward_step.Tie as tie
 
-returns : tie.Need-returns
-returns c = simp (c .before .try-at .ensures) at (c .step-by .ensures)
-
 pub outward-step-spec : {M : Type 1} → statement M
 outward-step-spec =
     tie.close
     (tie.spec
     (λ c κs. search needs)
     (λ c κs. search needs)
-    returns)
+    (λ c. simp (c .before .try-at .ensures) at (c .step-by .ensures)))

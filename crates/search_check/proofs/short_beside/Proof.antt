@@ -3,9 +3,6 @@ use borrow.Author.Needs.{needs}
 use Rattle.search_check.proofs.short_beside.Statement.{statement}
 use Rattle.search_check.proofs.short_beside.Tie as tie
 
-returns : tie.Need-returns
-returns c = simp (c .before .before .before .sort .given .1) (c .is-picked .ensures)
-
 pub short-beside-spec : {M : Type 1} → statement M
 short-beside-spec =
     tie.close
@@ -16,7 +13,7 @@ short-beside-spec =
     (λ c. search needs)
     (λ c. search needs)
     (λ c. search needs)
-    returns
+    (λ c. simp (c .before .before .before .sort .given .1) (c .is-picked .ensures))
     (λ c. search needs)
     (λ c. search needs)
     (λ c. search needs))

@@ -6,9 +6,6 @@ use Rattle.search_proposals.specs.Proposals.{offeredAt}
 use Rattle.search_proposals.proofs.offered.Statement.{statement}
 use Rattle.search_proposals.proofs.offered.Tie as tie
 
-float-to-bits-word : tie.Need-float-to-bits-word
-float-to-bits-word c = finite-no-nan _ (sym (c .before .is-finite .ensures) ∙ c .if1 .taken)
-
 returns : tie.Need-returns
 unfolding offeredAt
 returns c =
@@ -35,7 +32,7 @@ offered-spec =
     tie.close
     (tie.spec
     (λ c κs. search needs)
-    float-to-bits-word
+    (λ c. finite-no-nan _ (sym (c .before .is-finite .ensures) ∙ c .if1 .taken))
     (λ c κs. search needs)
     (λ c κs. search needs)
     returns

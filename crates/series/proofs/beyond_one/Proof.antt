@@ -25,11 +25,9 @@ above l h = h ∙ simp h at (two-sided l)
 not-above : (l : Float) → lt n1 l ≡ false → lt l (neg n1) ≡ beyondOne l
 not-above l h = simp h at (two-sided l)
 
-returns : tie.Need-returns
-returns c = above (c .before .args .l) (c .if1 .taken)
-
-returns-2 : tie.Need-returns-2
-returns-2 c = not-above (c .before .args .l) (c .if1 .left)
-
 pub beyond-one-spec : {M : Type 1} → statement M
-beyond-one-spec = tie.close (tie.spec returns returns-2)
+beyond-one-spec =
+    tie.close
+    (tie.spec
+    (λ c. above (c .before .args .l) (c .if1 .taken))
+    (λ c. not-above (c .before .args .l) (c .if1 .left)))

@@ -24,20 +24,14 @@ unfolding doublings
 done zero c0 c1 h = refl
 done (suc k) c0 c1 h = absurd (omega arith)
 
-loop-holds : tie.Need-loop-holds Inv-loop μ-loop
-loop-holds c = refl
-
-sub-left : tie.Need-sub-left Inv-loop μ-loop
-sub-left c = omega arith
-
-loop-less : tie.Need-loop-less Inv-loop μ-loop
-loop-less c = omega arith
-
-loop-again : tie.Need-loop-again Inv-loop μ-loop
-loop-again c = let at = c .before .loop in sym (turn (at .left) (at .c0) (at .c1) (c .loop-test .taken)) ∙ at .inv
-
-returns : tie.Need-returns Inv-loop μ-loop
-returns c = let at = c .before .loop in sym (done (at .left) (at .c0) (at .c1) (c .loop-test .left)) ∙ at .inv
-
 pub double-spec : {M : Type 1} → statement M
-double-spec = tie.close (tie.spec Inv-loop μ-loop loop-holds sub-left loop-less loop-again returns)
+double-spec =
+    tie.close
+    (tie.spec
+    Inv-loop
+    μ-loop
+    (λ c. refl)
+    (λ c. omega arith)
+    (λ c. omega arith)
+    (λ c. let at = c .before .loop in sym (turn (at .left) (at .c0) (at .c1) (c .loop-test .taken)) ∙ at .inv)
+    (λ c. let at = c .before .loop in sym (done (at .left) (at .c0) (at .c1) (c .loop-test .left)) ∙ at .inv))

@@ -3,8 +3,5 @@ use mathlib.Core.Path.{refl}
 use Rattle.series.proofs.first_l.Statement.{statement}
 use Rattle.series.proofs.first_l.Tie as tie
 
-returns : tie.Need-returns
-returns c = refl
-
 pub first-l-spec : {M : Type 1} → statement M
-first-l-spec = tie.close (tie.spec returns)
+first-l-spec = tie.close (tie.spec (λ c. refl))

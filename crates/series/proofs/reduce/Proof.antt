@@ -29,18 +29,6 @@ unfolding reducedFrom
 spent zero again l m h = refl
 spent (suc k) again l m h = absurd (omega arith)
 
-loop-holds : tie.Need-loop-holds Inv-loop μ-loop
-loop-holds c = (omega arith, refl)
-
-beyond-one-requires : tie.Need-beyond-one-requires Inv-loop μ-loop
-beyond-one-requires c κs = search needs
-
-add-m : tie.Need-add-m Inv-loop μ-loop
-add-m c = omega arith
-
-loop-less : tie.Need-loop-less Inv-loop μ-loop
-loop-less c = omega arith
-
 loop-again : tie.Need-loop-again Inv-loop μ-loop
 loop-again c =
     let at = c .before .before .before .loop in
@@ -56,8 +44,16 @@ returns c =
     let at = c .before .before .before .loop in
     sym (stays (512 - at .m) (beyondOne (at .l)) (at .l) (at .m) (sym (c .before .beyond-one .ensures) ∙ c .if1 .left)) ∙ at .inv .1
 
-returns-2 : tie.Need-returns-2 Inv-loop μ-loop
-returns-2 c = let at = c .before .loop in sym (spent (512 - at .m) (beyondOne (at .l)) (at .l) (at .m) (omega arith)) ∙ at .inv .1
-
 pub reduce-spec : {M : Type 1} → statement M
-reduce-spec = tie.close (tie.spec Inv-loop μ-loop loop-holds beyond-one-requires add-m loop-less loop-again returns returns-2)
+reduce-spec =
+    tie.close
+    (tie.spec
+    Inv-loop
+    μ-loop
+    (λ c. (omega arith, refl))
+    (λ c κs. search needs)
+    (λ c. omega arith)
+    (λ c. omega arith)
+    loop-again
+    returns
+    (λ c. let at = c .before .loop in sym (spent (512 - at .m) (beyondOne (at .l)) (at .l) (at .m) (omega arith)) ∙ at .inv .1))

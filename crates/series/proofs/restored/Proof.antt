@@ -5,9 +5,6 @@ use borrow.Author.Tests.{lt-ltb, le-ltb}
 use Rattle.series.proofs.restored.Statement.{statement}
 use Rattle.series.proofs.restored.Tie as tie
 
-returns : tie.Need-returns
-returns c = simp (le-ltb 0 (c .before .args .m) (omega arith))
-
 returns-2 : tie.Need-returns-2
 returns-2 c =
     simp (lt-ltb 0 (c .before .before .before .args .m) (omega (arith, c .before .before .if1 .left)))
@@ -17,7 +14,7 @@ pub restored-spec : {M : Type 1} → statement M
 restored-spec =
     tie.close
     (tie.spec
-    returns
+    (λ c. simp (le-ltb 0 (c .before .args .m) (omega arith)))
     (λ c κs. search needs)
     (λ c κs. search needs)
     returns-2)

@@ -8,18 +8,6 @@ use Rattle.bits.proofs.Leading.{up, zeros-enough, up-small, moved-up}
 use Rattle.bits.proofs.root.normalised.Statement.{statement}
 use Rattle.bits.proofs.root.normalised.Tie as tie
 
-cast-up : tie.Need-cast-up
-cast-up c = record { fits = lt-of-le-of-lt (leading-le 64 _) (omega arith) }
-
-sub-up : tie.Need-sub-up
-sub-up c = zeros-enough (omega arith) (omega arith)
-
-shl-t4 : tie.Need-shl-t4
-shl-t4 c = lt-of-le-of-lt (up-small (omega arith) (omega arith)) (omega arith)
-
-sub-t5 : tie.Need-sub-t5
-sub-t5 c = up-small (omega arith) (omega arith)
-
 returns : tie.Need-returns
 returns c =
     let t = c .args .digits in
@@ -28,4 +16,11 @@ returns c =
     rw w n
 
 pub normalised-spec : {M : Type 1} → statement M
-normalised-spec = tie.close (tie.spec cast-up sub-up shl-t4 sub-t5 returns)
+normalised-spec =
+    tie.close
+    (tie.spec
+    (λ c. record { fits = lt-of-le-of-lt (leading-le 64 _) (omega arith) })
+    (λ c. zeros-enough (omega arith) (omega arith))
+    (λ c. lt-of-le-of-lt (up-small (omega arith) (omega arith)) (omega arith))
+    (λ c. up-small (omega arith) (omega arith))
+    returns)

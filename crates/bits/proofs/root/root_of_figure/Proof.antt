@@ -12,15 +12,6 @@ use Rattle.bits.proofs.Computed.{answered, word-bounded}
 use Rattle.bits.proofs.root.root_of_figure.Statement.{statement}
 use Rattle.bits.proofs.root.root_of_figure.Tie as tie
 
-returns : tie.Need-returns
-returns c = root-of-nan _ (differs-from-itself _ (subst T (sym (c .if1 .taken)) tt))
-
-float-to-bits-root-of : tie.Need-float-to-bits-root-of
-float-to-bits-root-of c = no-nan _ (c .if1 .left)
-
-float-from-bits-t6 : tie.Need-float-from-bits-t6
-float-from-bits-t6 c = no-nan-bits _ (omega (arith, word-bounded _ _ _ (c .root-of .ensures)))
-
 returns-2 : tie.Need-returns-2
 unfolding rootOf
 returns-2 c =
@@ -31,8 +22,8 @@ pub root-of-figure-spec : {M : Type 1} → statement M
 root-of-figure-spec =
     tie.close
     (tie.spec
-    returns
-    float-to-bits-root-of
+    (λ c. root-of-nan _ (differs-from-itself _ (subst T (sym (c .if1 .taken)) tt)))
+    (λ c. no-nan _ (c .if1 .left))
     (λ c κs. search needs)
-    float-from-bits-t6
+    (λ c. no-nan-bits _ (omega (arith, word-bounded _ _ _ (c .root-of .ensures))))
     returns-2)

@@ -21,30 +21,6 @@ Inv-loop words run₀ k₀ run k = (length run ≡ length words) × (k ≤ lengt
 abbrev μ-loop : tie.MeasureT-loop
 μ-loop words run₀ k₀ run k = length words - k
 
-returns : tie.Need-returns Inv-loop μ-loop
-returns c = sym (copied-none _ _ (c .if1 .taken))
-
-loop-holds : tie.Need-loop-holds Inv-loop μ-loop
-loop-holds c = (c .if1 .left, omega arith, refl)
-
-mul-run : tie.Need-mul-run Inv-loop μ-loop
-mul-run c = search needs
-
-shared-slice-read-run : tie.Need-shared-slice-read-run Inv-loop μ-loop
-shared-slice-read-run c = omega arith
-
-mul-run-2 : tie.Need-mul-run-2 Inv-loop μ-loop
-mul-run-2 c = search needs
-
-slice-write-run : tie.Need-slice-write-run Inv-loop μ-loop
-slice-write-run c = omega arith
-
-add-k : tie.Need-add-k Inv-loop μ-loop
-add-k c = omega arith
-
-loop-less : tie.Need-loop-less Inv-loop μ-loop
-loop-less c = omega arith
-
 loop-again : tie.Need-loop-again Inv-loop μ-loop
 loop-again c =
     let at = c .before .before .loop in
@@ -53,9 +29,6 @@ loop-again c =
       omega arith,
       more words (at .run) (at .k) (omega arith) (omega arith) (at .inv .2),
     )
-
-same-length : tie.Need-same-length Inv-loop μ-loop
-same-length c = c .before .loop .inv .0 ∙ sym (c .before .before .if1 .left)
 
 returns-2 : tie.Need-returns-2 Inv-loop μ-loop
 returns-2 c =
@@ -69,14 +42,14 @@ copy-words-spec =
     (tie.spec
     Inv-loop
     μ-loop
-    returns
-    loop-holds
-    mul-run
-    shared-slice-read-run
-    mul-run-2
-    slice-write-run
-    add-k
-    loop-less
+    (λ c. sym (copied-none _ _ (c .if1 .taken)))
+    (λ c. (c .if1 .left, omega arith, refl))
+    (λ c. search needs)
+    (λ c. omega arith)
+    (λ c. search needs)
+    (λ c. omega arith)
+    (λ c. omega arith)
+    (λ c. omega arith)
     loop-again
-    same-length
+    (λ c. c .before .loop .inv .0 ∙ sym (c .before .before .if1 .left))
     returns-2)

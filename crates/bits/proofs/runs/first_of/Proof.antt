@@ -29,30 +29,12 @@ module _ (s : Sought) (words : List ℕ) (k : ℕ) where
   unfolding firstOf
   over h = rw (drop-of-length-le words h)
 
-loop-holds : tie.Need-loop-holds Inv-loop μ-loop
-loop-holds c = omega arith
-
-mul-is-sought : tie.Need-mul-is-sought Inv-loop μ-loop
-mul-is-sought c = search needs
-
-shared-slice-read-is-sought : tie.Need-shared-slice-read-is-sought Inv-loop μ-loop
-shared-slice-read-is-sought c = search needs
-
-is-sought-requires : tie.Need-is-sought-requires Inv-loop μ-loop
-is-sought-requires c κs = search needs
-
 returns : tie.Need-returns Inv-loop μ-loop
 returns c =
     let at = c .before .before .before .before .loop in
     let a = c .before .before .before .before .before .before .args in
     let e = turn (a .sought) (a .words .now) (at .number) true (c .before .before .before .loop-test .taken) (sym (c .if1 .taken) ∙ c .before .is-sought .ensures) in
     omega (arith, e)
-
-add-number : tie.Need-add-number Inv-loop μ-loop
-add-number c = omega arith
-
-loop-less : tie.Need-loop-less Inv-loop μ-loop
-loop-less c = omega arith
 
 loop-again : tie.Need-loop-again Inv-loop μ-loop
 loop-again c =
@@ -61,23 +43,18 @@ loop-again c =
     let e = turn (a .sought) (a .words .now) (at .number) false (c .before .before .before .loop-test .taken) (sym (c .if1 .left) ∙ c .before .is-sought .ensures) in
     omega (arith, e)
 
-returns-2 : tie.Need-returns-2 Inv-loop μ-loop
-returns-2 c =
-    let a = c .before .before .before .args in
-    omega (arith, over (a .sought) (a .words .now) (c .before .loop .number) (c .loop-test .left))
-
 pub first-of-spec : {M : Type 1} → statement M
 first-of-spec =
     tie.close
     (tie.spec
     Inv-loop
     μ-loop
-    loop-holds
-    mul-is-sought
-    shared-slice-read-is-sought
-    is-sought-requires
+    (λ c. omega arith)
+    (λ c. search needs)
+    (λ c. search needs)
+    (λ c κs. search needs)
     returns
-    add-number
-    loop-less
+    (λ c. omega arith)
+    (λ c. omega arith)
     loop-again
-    returns-2)
+    (λ c. let a = c .before .before .before .args in omega (arith, over (a .sought) (a .words .now) (c .before .loop .number) (c .loop-test .left))))

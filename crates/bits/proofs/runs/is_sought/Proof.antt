@@ -4,12 +4,6 @@ use Rattle.bits.proofs.Doubles.{zero-by-word}
 use Rattle.bits.proofs.runs.is_sought.Statement.{statement}
 use Rattle.bits.proofs.runs.is_sought.Tie as tie
 
-returns : tie.Need-returns
-returns c = simp (c .enum-told .given .1, zero-by-word)
-
-returns-2 : tie.Need-returns-2
-returns-2 c = simp (c .before .enum-told2 .given .1, c .is-finite-word .ensures)
-
 pub is-sought-spec : {M : Type 1} → statement M
 is-sought-spec =
     tie.close
@@ -17,5 +11,5 @@ is-sought-spec =
     (λ c. search needs)
     (λ c. search needs)
     (λ c κs. search needs)
-    returns
-    returns-2)
+    (λ c. simp (c .enum-told .given .1, zero-by-word))
+    (λ c. simp (c .before .enum-told2 .given .1, c .is-finite-word .ensures)))

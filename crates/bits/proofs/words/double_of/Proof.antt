@@ -25,16 +25,10 @@ quotient : div binary64 (ofBits binary64 0) (ofBits binary64 0) ≡ nan
 unfolding div ofBits
 quotient = refl
 
-returns : tie.Need-returns
-returns c = quotient ∙ nan-word (c .before .args .word) (c .if1 .taken)
-
-float-from-bits-result : tie.Need-float-from-bits-result
-float-from-bits-result c = no-nan-word (c .before .args .word) (c .if1 .left)
-
 pub double-of-spec : {M : Type 1} → statement M
 double-of-spec =
     tie.close
     (tie.spec
-    returns
-    float-from-bits-result
+    (λ c. quotient ∙ nan-word (c .before .args .word) (c .if1 .taken))
+    (λ c. no-nan-word (c .before .args .word) (c .if1 .left))
     (λ c. search needs))

@@ -13,11 +13,9 @@ between (inf true) = refl
 between (inf false) = refl
 between (fin s m e) = refl
 
-returns : tie.Need-returns
-returns c = rw (c .if1 .taken) at (between (c .before .args .x))
-
-returns-2 : tie.Need-returns-2
-returns-2 c = c .if1 .left ∙ (rw (c .if1 .left) at (between (c .before .args .x)))
-
 pub is-finite-spec : {M : Type 1} → statement M
-is-finite-spec = tie.close (tie.spec returns returns-2)
+is-finite-spec =
+    tie.close
+    (tie.spec
+    (λ c. rw (c .if1 .taken) at (between (c .before .args .x)))
+    (λ c. c .if1 .left ∙ (rw (c .if1 .left) at (between (c .before .args .x)))))

@@ -6,18 +6,10 @@ use Rattle.bits.specs.Words.{fieldOf}
 use Rattle.bits.proofs.words.kind_of.Statement.{statement}
 use Rattle.bits.proofs.words.kind_of.Tie as tie
 
-returns : tie.Need-returns
-returns c = simp (eq-eqb _ 0 (c .match .keys1))
-
-returns-2 : tie.Need-returns-2
-returns-2 c =
-    let f : fieldOf (c .before .before .args .word) ≤ 2046 = omega arith in
-    simp (ne-eqb _ 0 (c .before .match .rest .1), le-leb _ _ f)
-
-returns-3 : tie.Need-returns-3
-returns-3 c =
-    let f : 2046 < fieldOf (c .before .before .args .word) = omega arith in
-    simp (ne-eqb _ 0 (c .before .match .rest .1), lt-leb _ _ f)
-
 pub kind-of-spec : {M : Type 1} → statement M
-kind-of-spec = tie.close (tie.spec returns returns-2 returns-3)
+kind-of-spec =
+    tie.close
+    (tie.spec
+    (λ c. simp (eq-eqb _ 0 (c .match .keys1)))
+    (λ c. let f : fieldOf (c .before .before .args .word) ≤ 2046 = omega arith in simp (ne-eqb _ 0 (c .before .match .rest .1), le-leb _ _ f))
+    (λ c. let f : 2046 < fieldOf (c .before .before .args .word) = omega arith in simp (ne-eqb _ 0 (c .before .match .rest .1), lt-leb _ _ f)))

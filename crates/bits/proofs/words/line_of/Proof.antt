@@ -9,15 +9,6 @@ use Rattle.bits.specs.Words.{minusZero}
 use Rattle.bits.proofs.words.line_of.Statement.{statement}
 use Rattle.bits.proofs.words.line_of.Tie as tie
 
-add-result : tie.Need-add-result
-add-result c = omega arith
-
-sub-result : tie.Need-sub-result
-sub-result c = omega arith
-
-returns : tie.Need-returns
-returns c = let w = c .before .args .word in ap (λ (b : Bool). pick b (minusZero + w) (2 ^ 64 - w)) (sym (lt-ltb w minusZero (c .if1 .taken)))
-
 returns-2 : tie.Need-returns-2
 returns-2 c =
     let w = c .before .args .word in
@@ -25,4 +16,10 @@ returns-2 c =
     e ∙ ap (λ (b : Bool). pick b (minusZero + w) (2 ^ 64 - w)) (sym (le-ltb w minusZero (c .if1 .left)))
 
 pub line-of-spec : {M : Type 1} → statement M
-line-of-spec = tie.close (tie.spec add-result sub-result returns returns-2)
+line-of-spec =
+    tie.close
+    (tie.spec
+    (λ c. omega arith)
+    (λ c. omega arith)
+    (λ c. let w = c .before .args .word in ap (λ (b : Bool). pick b (minusZero + w) (2 ^ 64 - w)) (sym (lt-ltb w minusZero (c .if1 .taken))))
+    returns-2)

@@ -52,20 +52,11 @@ module _ (x : Float) (f : T (fits binary64 x)) (h : ne x x ≡ false) where
   readable : T (not (nanBits binary64 (toBits binary64 x % 2 ^ 63)))
   readable = subst (λ (b : Bool). T (not b)) (sym (nanBits-is binary64 (toBits binary64 x % 2 ^ 63) ∙ ap isNan back ∙ magnitude-not-nan x h)) tt
 
-returns : tie.Need-returns
-returns c =
-    let e = differs-from-itself _ (subst T (sym (c .if1 .taken)) tt) in
-    subst (λ (y : Float). y ≡ magnitude y) (sym e) refl
-
-float-to-bits-result : tie.Need-float-to-bits-result
-float-to-bits-result c = no-nan _ (c .if1 .left)
-
-float-from-bits-result : tie.Need-float-from-bits-result
-float-from-bits-result c = readable _ (subst T (sym (c .before .good .0 .1)) tt) (c .if1 .left)
-
-returns-2 : tie.Need-returns-2
-returns-2 c = back _ (subst T (sym (c .before .good .0 .1)) tt) (c .if1 .left)
-
 pub magnitude-of-spec : {M : Type 1} → statement M
 magnitude-of-spec =
-    tie.close (tie.spec returns float-to-bits-result float-from-bits-result returns-2)
+    tie.close
+    (tie.spec
+    (λ c. let e = differs-from-itself _ (subst T (sym (c .if1 .taken)) tt) in subst (λ (y : Float). y ≡ magnitude y) (sym e) refl)
+    (λ c. no-nan _ (c .if1 .left))
+    (λ c. readable _ (subst T (sym (c .before .good .0 .1)) tt) (c .if1 .left))
+    (λ c. back _ (subst T (sym (c .before .good .0 .1)) tt) (c .if1 .left)))

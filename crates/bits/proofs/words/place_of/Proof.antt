@@ -5,12 +5,9 @@ use borrow.Author.Needs.{needs}
 use Rattle.bits.proofs.words.place_of.Statement.{statement}
 use Rattle.bits.proofs.words.place_of.Tie as tie
 
-returns : tie.Need-returns
-returns c = ap (λ (w : ℕ). w % 2 ^ 63) (c .word-of .ensures)
-
 pub place-of-spec : {M : Type 1} → statement M
 place-of-spec =
     tie.close
     (tie.spec
     (λ c κs. search needs)
-    returns)
+    (λ c. ap (λ (w : ℕ). w % 2 ^ 63) (c .word-of .ensures)))

@@ -12,16 +12,10 @@ of-nan : (x : Float) → x ≡ nan → 0x7ff8_0000_0000_0000 ≡ toBits binary64
 unfolding toBits
 of-nan x e = subst (λ (y : Float). 0x7ff8_0000_0000_0000 ≡ toBits binary64 y) (sym e) refl
 
-returns : tie.Need-returns
-returns c = of-nan _ (differs-from-itself _ (subst T (sym (c .if1 .taken)) tt))
-
-float-to-bits-result : tie.Need-float-to-bits-result
-float-to-bits-result c = no-nan _ (c .if1 .left)
-
 pub word-of-spec : {M : Type 1} → statement M
 word-of-spec =
     tie.close
     (tie.spec
-    returns
-    float-to-bits-result
+    (λ c. of-nan _ (differs-from-itself _ (subst T (sym (c .if1 .taken)) tt)))
+    (λ c. no-nan _ (c .if1 .left))
     (λ c. search needs))

@@ -1,82 +1,71 @@
--- Each place is exact as far as the file's end, and each word the same.
-use Prim.Native.Nat.{ℕ, _+_, _*_, _≤_}
+-- The records are those that the numbers of an accepted file name: each number is that of a record, and so small.
+use Prim.Native.Nat.{ℕ}
 use native.Mathlib.Omega.{arith}
-use mathlib.Core.Path.{_≡_, ap, ap₂, _∙_}
-use mathlib.Core.List.{List, [], _∷_}
+use mathlib.Core.Path.{_≡_, ap, _∙_}
+use mathlib.Core.List.{List}
 use borrow.Author.Needs.{needs}
-use lib.ListN.{length}
-use Rattle.files_sections.specs.declared.sections.Section.the-variants.{Centres, States}
-use Rattle.files_sections.specs.Sections.{after, stateCentre, stateEpoch, statePosition, stateVelocity, requestState, requestTime}
-use Rattle.files_results.specs.Requests.{tauOf, field, eightWords, requestWords, asFarAs}
-use Rattle.files_results.proofs.Beyond.{at-most, same-word}
+use Rattle.files_formats.specs.declared.elements.Section.the-variants.{Centres, States}
+use Rattle.files_formats.specs.Shapes.{recordOf}
+use Rattle.files_reader.proofs.Accepted.{accepted-counts}
+use Rattle.files_results.specs.Requests.{field, statePlace, eightWords, requestWords}
+use Rattle.files_results.proofs.Numbers.{state-number, centre-number}
 use Rattle.files_results.proofs.requests.request_words.Statement.{statement}
 use Rattle.files_results.proofs.requests.request_words.Tie as tie
 
-module _ (file : List ℕ) where
-  abbrev near : ℕ → ℕ
-  near place = asFarAs (length file + 8) place
+-- A number that is read of a record: its place and its column are right.
+number-at : (file : List ℕ) {at place n column : ℕ} → at ≡ place → n ≡ column → {s : ℕ} → s ≡ field file at n → s ≡ field file place column
+number-at file p q e = e ∙ (λ i. field file (p i) (q i))
 
-  near-end : {r : ℕ} (place : ℕ) → r ≡ near place → r ≤ length file + 8
-  near-end {r} place e = omega (arith, e, at-most (length file + 8) place)
+cast-record : tie.Need-cast-record
+cast-record c =
+    let column = c .before in
+    let p = column .before .before .before in
+    let a = p .args in
+    let s = number-at (a .file .now) (column .before .«record» .ensures .0) (column .column-at .ensures .0) (c .field .ensures) in
+    omega (arith, s, state-number (a .file .now) (a .shape) (p .pre .0) (a .k) (p .pre .1), accepted-counts (a .file .now) (a .shape) (p .pre .0))
 
-  same-field : (place n : ℕ) → field file (near place) n ≡ field file place n
-  same-field place n = same-word file place (8 * n)
+-- Where the state stands.
+state-at : (c : tie.After-record2) →
+    let a = c .before .before .before .before .before .args in
+    c .record2 .result ≡ statePlace (a .file .now) (a .shape) (a .k)
+state-at c =
+    let column = c .before .before in
+    let a = column .before .before .before .args in
+    let s = number-at (a .file .now) (column .before .«record» .ensures .0) (column .column-at .ensures .0) (c .before .field .ensures) in
+    c .record2 .ensures .0 ∙ ap (recordOf (a .shape) States) s
 
-  eight : (request state centre : ℕ) → eightWords file (near request) (near state) (near centre) ≡ eightWords file request state centre
-  eight request state centre =
-      let of : (n : ℕ) → field file (near state) n ≡ field file state n = same-field state in
-      let tau = ap₂ tauOf (same-field request requestTime) (of stateEpoch) in
-      λ i.
-      same-field centre 0 i
-      ∷ of statePosition i ∷ of (statePosition + 1) i ∷ of (statePosition + 2) i
-      ∷ of stateVelocity i ∷ of (stateVelocity + 1) i ∷ of (stateVelocity + 2) i
-      ∷ tau i ∷ []
-
-record-at-requires : tie.Need-record-at-requires
-record-at-requires c κs = omega (arith, c .before .good)
-
-field-requires : tie.Need-field-requires
-field-requires c κs = (near-end (c .before .before .args .file .now) _ (c .record-at .ensures), search needs)
-
-record-at-requires-2 : tie.Need-record-at-requires-2
-record-at-requires-2 c κs = omega (arith, c .before .before .before .good)
-
-field-requires-2 : tie.Need-field-requires-2
-field-requires-2 c κs = (near-end (c .before .before .before .before .args .file .now) _ (c .record-at2 .ensures), search needs)
-
-record-at-requires-3 : tie.Need-record-at-requires-3
-record-at-requires-3 c κs = omega (arith, c .before .before .before .before .before .good)
-
-eight-words-requires : tie.Need-eight-words-requires
-eight-words-requires c κs =
-    let state = c .before .before in
-    let request = state .before .before in
-    let file = request .before .before .args .file .now in
-    (near-end file _ (request .record-at .ensures), near-end file _ (state .record-at2 .ensures), near-end file _ (c .record-at3 .ensures))
+cast-record-2 : tie.Need-cast-record-2
+cast-record-2 c =
+    let column = c .before in
+    let p = column .before .before .before .before .before .before in
+    let a = p .args in
+    let s = number-at (a .file .now) (state-at (column .before)) (column .column-at2 .ensures .0) (c .field2 .ensures) in
+    omega (arith, s, centre-number (a .file .now) (a .shape) (p .pre .0) (a .k) (p .pre .1), accepted-counts (a .file .now) (a .shape) (p .pre .0))
 
 returns : tie.Need-returns
 unfolding requestWords
 returns c =
     let centre = c .before in
-    let state = centre .before .before in
-    let request = state .before .before in
-    let file = request .before .before .args .file .now in
-    let p = request .before .before .args .places in
-    let r = request .record-at .ensures in
-    let number = state .before .field .ensures ∙ ap (λ (at : ℕ). field file at requestState) r ∙ same-field file _ requestState in
-    let s = state .record-at2 .ensures ∙ ap (λ (n : ℕ). near file (after States (p .states .place) n)) number in
-    let of = centre .before .field2 .ensures ∙ ap (λ (at : ℕ). field file at stateCentre) s ∙ same-field file _ stateCentre in
-    let m = centre .record-at3 .ensures ∙ ap (λ (n : ℕ). near file (after Centres (p .centres .place) n)) of in
-    c .eight-words .ensures ∙ (λ i. eightWords file (r i) (s i) (m i)) ∙ eight file _ _ _
+    let column = centre .before .before in
+    let state = column .before in
+    let request = state .before .before .before in
+    let a = request .before .before .args in
+    let s = number-at (a .file .now) (state-at state) (column .column-at2 .ensures .0) (centre .before .field2 .ensures) in
+    let m = centre .record3 .ensures .0 ∙ ap (recordOf (a .shape) Centres) s in
+    c .eight-words .ensures ∙ (λ i. eightWords (a .file .now) (a .shape .edition) (request .«record» .ensures .0 i) (state-at state i) (m i))
 
 pub request-words-spec : {M : Type 1} → statement M
 request-words-spec =
     tie.close
     (tie.spec
-    record-at-requires
-    field-requires
-    record-at-requires-2
-    field-requires-2
-    record-at-requires-3
-    eight-words-requires
+    (λ c κs. search needs)
+    (λ c κs. search needs)
+    (λ c κs. search needs)
+    cast-record
+    (λ c κs. search needs)
+    (λ c κs. search needs)
+    (λ c κs. search needs)
+    cast-record-2
+    (λ c κs. search needs)
+    (λ c κs. search needs)
     returns)

@@ -6,9 +6,6 @@ use Rattle.bits.specs.Arithmetic.{_⊖_}
 use Rattle.files_results.proofs.requests.tau_of.Statement.{statement}
 use Rattle.files_results.proofs.requests.tau_of.Tie as tie
 
-returns : tie.Need-returns
-returns c = c .word-of .ensures ∙ ap (toBits binary64) (ap₂ _⊖_ (c .before .before .double-of .ensures) (c .before .double-of2 .ensures))
-
 pub tau-of-spec : {M : Type 1} → statement M
 tau-of-spec =
     tie.close
@@ -16,4 +13,4 @@ tau-of-spec =
     (λ c κs. search needs)
     (λ c κs. search needs)
     (λ c κs. search needs)
-    returns)
+    (λ c. c .word-of .ensures ∙ ap (toBits binary64) (ap₂ _⊖_ (c .before .before .double-of .ensures) (c .before .double-of2 .ensures))))

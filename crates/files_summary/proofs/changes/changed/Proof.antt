@@ -3,12 +3,9 @@ use borrow.Author.Needs.{needs}
 use Rattle.files_summary.proofs.changes.changed.Statement.{statement}
 use Rattle.files_summary.proofs.changes.changed.Tie as tie
 
-returns : tie.Need-returns
-returns c = let a = c .before .before .args in λ i. record { number = 0; count = a .count; at = a .centre; entry = c .entry-of .ensures i }
-
 pub changed-spec : {M : Type 1} → statement M
 changed-spec =
     tie.close
     (tie.spec
     (λ c κs. search needs)
-    returns)
+    (λ c. let a = c .before .before .args in λ i. record { number = 0; count = a .count; at = a .centre; entry = c .entry-of .ensures i }))

@@ -19,9 +19,6 @@ entry t n e l = record { states = n; nans = t .nans; earliest = e; latest = l }
 by-count : (t : Tally) (b : Bool) → eqb (t .states) 0 ≡ b → pick b (entry t 0 0 0) (entry t (t .states) (wordOn (t .first)) (wordOn (t .last))) ≡ shown t
 by-count t b e = sym (ap (λ (x : Bool). pick x (entry t 0 0 0) (entry t (t .states) (wordOn (t .first)) (wordOn (t .last)))) e)
 
-returns : tie.Need-returns
-returns c = let t = c .before .before .args .tally in by-count t true (eq-eqb (t .states) 0 (c .if1 .taken))
-
 returns-2 : tie.Need-returns-2
 returns-2 c =
     let t = c .before .before .before .before .args .tally in
@@ -31,7 +28,7 @@ pub shown-spec : {M : Type 1} → statement M
 shown-spec =
     tie.close
     (tie.spec
-    returns
+    (λ c. let t = c .before .before .args .tally in by-count t true (eq-eqb (t .states) 0 (c .if1 .taken)))
     (λ c κs. search needs)
     (λ c κs. search needs)
     returns-2)

@@ -6,16 +6,16 @@ use borrow.Author.Needs.{needs}
 use Rattle.bits.specs.Choice.{pick}
 use Rattle.bits.specs.Line.{isNanWord, lineOf}
 use Rattle.files_summary.specs.declared.entries.Tally.{Tally}
-use Rattle.files_summary.specs.Entries.{earlier, later, withNan, withPlace, withEpoch}
+use Rattle.files_summary.specs.Entries.{earlier, later, withNan, withMoment, withEpoch}
 use Rattle.files_summary.proofs.entries.with_epoch.Statement.{statement}
 use Rattle.files_summary.proofs.entries.with_epoch.Tie as tie
 
 -- What the test says of the epoch, and what is then gathered.
-told : (t : Tally) (e : ℕ) (b : Bool) → b ≡ isNanWord e → pick b (withNan t) (withPlace t (lineOf e)) ≡ withEpoch t e
-told t e b h = ap (λ (x : Bool). pick x (withNan t) (withPlace t (lineOf e))) h
+told : (t : Tally) (e : ℕ) (b : Bool) → b ≡ isNanWord e → pick b (withNan t) (withMoment t (lineOf e)) ≡ withEpoch t e
+told t e b h = ap (λ (x : Bool). pick x (withNan t) (withMoment t (lineOf e))) h
 
 placed : (t : Tally) (e p first last : ℕ) → p ≡ lineOf e → first ≡ earlier (t .first) p → last ≡ later (t .last) p
-    → _≡_ {A = Tally} (record { states = t .states + 1; nans = t .nans; first = first; last = last }) (withPlace t (lineOf e))
+    → _≡_ {A = Tally} (record { states = t .states + 1; nans = t .nans; first = first; last = last }) (withMoment t (lineOf e))
 placed t e p first last at f l =
     λ i. record { states = t .states + 1; nans = t .nans; first = (f ∙ ap (earlier (t .first)) at) i; last = (l ∙ ap (later (t .last)) at) i }
 

@@ -1,28 +1,31 @@
 -- The first words of the list are those of the centres done, in order; in the end all are.
-use mathlib.Core.Path.{_≡_, sym, ap, _∙_}
+use mathlib.Core.Path.{_≡_, refl, sym, ap, _∙_}
 use mathlib.Core.List.{List, _++_}
 use Prim.Native.Nat.{ℕ, suc, _-_, _*_, _<_, _≤_}
 use native.Mathlib.Omega.{arith}
 use borrow.Author.Needs.{needs}
 use lib.ListN.{length, take}
 use lib.Seq.{take-all}
-use Rattle.files_words.specs.Bytes.{put}
+use Rattle.files_records.specs.Records.{recordsOf}
+use Rattle.files_records.proofs.RecordLaws.{front-put}
+use Rattle.files_formats.specs.declared.elements.Edition.{Edition}
+use Rattle.files_formats.specs.Rows.{entryWidth}
 use Rattle.files_summary.specs.declared.entries.Summary.{Summary}
-use Rattle.files_summary.specs.Entries.{inUse, entryOf, entryWords}
-use Rattle.files_summary.specs.Changes.{entryWidth, entriesOf, asWords}
-use Rattle.files_summary.proofs.WordLaws.{none-yet, one-more, entry-put}
+use Rattle.files_summary.specs.Entries.{stateWidth, centreEntry, entryWords}
+use Rattle.files_summary.specs.Changes.{putEntry, entriesOf, asWords}
+use Rattle.files_summary.proofs.WordLaws.{none-yet, one-more}
 use Rattle.files_summary.proofs.words.put_entries.Statement.{statement}
 use Rattle.files_summary.proofs.words.put_entries.Tie as tie
 
-module _ (states : List (List ℕ)) (centres : ℕ) where
+module _ (edition : Edition) (states : List (List ℕ)) (centres : ℕ) where
   -- So many centres are left.
   record AllBut (list : List ℕ) (left : ℕ) : Type 0 where
     few : left ≤ centres
     size : length list ≡ centres * entryWidth
-    same : take ((centres - left) * entryWidth) list ≡ asWords (entriesOf states (centres - left))
+    same : take ((centres - left) * entryWidth) list ≡ asWords (entriesOf edition states (centres - left))
 
   one-less : (list next : List ℕ) (left : ℕ) (entry : Summary) → 0 < left → AllBut list left → length next ≡ length list
-      → entry ≡ entryOf (centres - left) states → next ≡ put list ((centres - left) * entryWidth) (entryWords entry) → AllBut next (left - 1)
+      → entry ≡ centreEntry edition (centres - left) states → next ≡ putEntry list (centres - left) entry → AllBut next (left - 1)
   one-less list next left entry p inv size e put-it =
       let f = inv .few in
       let c = centres - left in
@@ -33,46 +36,33 @@ module _ (states : List (List ℕ)) (centres : ℕ) where
         same =
             ap (λ (k : ℕ). take (k * entryWidth) next) more
             ∙ ap (take (suc c * entryWidth)) put-it
-            ∙ entry-put list c entry (omega (arith, inv .size))
+            ∙ front-put entryWidth list c (entryWords entry) refl (omega (arith, inv .size))
             ∙ ap (λ (ws : List ℕ). ws ++ entryWords entry) (inv .same)
-            ∙ ap (λ (s : Summary). asWords (entriesOf states c) ++ entryWords s) e
-            ∙ sym (one-more states c)
-            ∙ ap (λ (k : ℕ). asWords (entriesOf states k)) (sym more);
+            ∙ ap (λ (s : Summary). asWords (entriesOf edition states c) ++ entryWords s) e
+            ∙ sym (one-more edition states c)
+            ∙ ap (λ (k : ℕ). asWords (entriesOf edition states k)) (sym more);
       }
 
-  in-the-end : (list : List ℕ) (left : ℕ) → left ≤ 0 → AllBut list left → list ≡ asWords (entriesOf states centres)
+  in-the-end : (list : List ℕ) (left : ℕ) → left ≤ 0 → AllBut list left → list ≡ asWords (entriesOf edition states centres)
   in-the-end list left z inv =
       let c : centres - left ≡ centres = omega arith in
-      sym (take-all ((centres - left) * entryWidth) list (omega (arith, inv .size))) ∙ inv .same ∙ ap (λ (k : ℕ). asWords (entriesOf states k)) c
+      sym (take-all ((centres - left) * entryWidth) list (omega (arith, inv .size))) ∙ inv .same ∙ ap (λ (k : ℕ). asWords (entriesOf edition states k)) c
 
 abbrev Inv-loop : tie.InvT-loop
-Inv-loop list₀ states count centres left₀ list left = AllBut (inUse states count) centres list left
+Inv-loop list₀ states edition count centres left₀ list left = AllBut edition (recordsOf (stateWidth edition) states count) centres list left
 
 abbrev μ-loop : tie.MeasureT-loop
-μ-loop list₀ states count centres left₀ list left = left
+μ-loop list₀ states edition count centres left₀ list left = left
 
 loop-holds : tie.Need-loop-holds Inv-loop μ-loop
 loop-holds c =
     let start = c .before .before in
     let a = start .args in
-    record { few = omega arith; size = start .pre .1; same = none-yet (inUse (a .states .now) (a .count)) (a .list .now) (a .centres - a .centres) (omega arith) }
-
-sub-centre : tie.Need-sub-centre Inv-loop μ-loop
-sub-centre c = omega (arith, c .before .loop .inv .few)
-
-entry-of-requires : tie.Need-entry-of-requires Inv-loop μ-loop
-entry-of-requires c κs = search needs
-
-put-entry-requires : tie.Need-put-entry-requires Inv-loop μ-loop
-put-entry-requires c κs =
-    let at = c .before .before .before in
-    omega (arith, at .loop .inv .few, at .loop .inv .size, c .before .before .loop-test .taken)
-
-sub-left : tie.Need-sub-left Inv-loop μ-loop
-sub-left c = search needs
-
-loop-less : tie.Need-loop-less Inv-loop μ-loop
-loop-less c = search needs
+    record {
+      few = omega arith;
+      size = start .pre .1;
+      same = none-yet (a .edition) (recordsOf (stateWidth (a .edition)) (a .states .now) (a .count)) (a .list .now) (a .centres - a .centres) (omega arith);
+    }
 
 loop-again : tie.Need-loop-again Inv-loop μ-loop
 loop-again c =
@@ -81,17 +71,14 @@ loop-again c =
     let test = entry .before .before in
     let at = test .before in
     let a = at .before .before .before .args in
-    one-less (inUse (a .states .now) (a .count)) (a .centres) (at .loop .list) _ (at .loop .left) (entry .entry-of .result) (test .loop-test .taken) (at .loop .inv)
-    (c .before .list .given) (entry .entry-of .ensures) (put-it .put-entry .ensures)
-
-same-length : tie.Need-same-length Inv-loop μ-loop
-same-length c = c .before .loop .inv .size ∙ sym (c .before .before .before .before .pre .1)
+    one-less (a .edition) (recordsOf (stateWidth (a .edition)) (a .states .now) (a .count)) (a .centres) (at .loop .list) _ (at .loop .left) (entry .entry-of .result)
+    (test .loop-test .taken) (at .loop .inv) (c .before .list .given) (entry .entry-of .ensures) (put-it .put-entry .ensures)
 
 returns : tie.Need-returns Inv-loop μ-loop
 returns c =
     let at = c .before in
     let a = at .before .before .before .args in
-    in-the-end (inUse (a .states .now) (a .count)) (a .centres) (at .loop .list) (at .loop .left) (c .loop-test .left) (at .loop .inv)
+    in-the-end (a .edition) (recordsOf (stateWidth (a .edition)) (a .states .now) (a .count)) (a .centres) (at .loop .list) (at .loop .left) (c .loop-test .left) (at .loop .inv)
 
 pub put-entries-spec : {M : Type 1} → statement M
 put-entries-spec =
@@ -100,11 +87,11 @@ put-entries-spec =
     Inv-loop
     μ-loop
     loop-holds
-    sub-centre
-    entry-of-requires
-    put-entry-requires
-    sub-left
-    loop-less
+    (λ c. omega (arith, c .before .loop .inv .few))
+    (λ c κs. search needs)
+    (λ c κs. search needs)
+    (λ c. search needs)
+    (λ c. search needs)
     loop-again
-    same-length
+    (λ c. c .before .loop .inv .size ∙ sym (c .before .before .before .before .pre .1))
     returns)

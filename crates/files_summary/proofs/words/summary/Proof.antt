@@ -3,13 +3,13 @@ use mathlib.Core.Path.{_≡_, sym, ap, _∙_}
 use mathlib.Core.Bool.{Bool}
 use mathlib.Core.List.{List}
 use Prim.Native.Nat.{ℕ, _*_}
-use native.Mathlib.Omega.{arith}
 use borrow.Author.Needs.{needs}
 use borrow.Author.Tests.{eqb-true}
 use lib.ListN.{length}
-use Rattle.files_summary.specs.Entries.{inUse}
-use Rattle.files_summary.specs.Changes.{entryWidth, lentRefusal, entriesOf, asWords, summaryRefusal, summaryList}
-use Rattle.files_summary.proofs.RefusalLaws.{lent-well}
+use Rattle.files_formats.specs.Rows.{entryWidth}
+use Rattle.files_summary.specs.declared.entries.Roster.{Roster}
+use Rattle.files_summary.specs.Changes.{lentRefusal, entriesIn, asWords, summaryRefusal, summaryList}
+use Rattle.files_summary.proofs.RefusalLaws.{lent-well, has-room}
 use Rattle.files_summary.proofs.ChangeLaws.{if-refused, if-made}
 use Rattle.files_summary.proofs.words.summary.Statement.{statement}
 use Rattle.files_summary.proofs.words.summary.Tie as tie
@@ -19,36 +19,38 @@ put-entries-requires c κs =
     let judged = c .before .before in
     let one = judged .before in
     let a = one .before .before .before .args in
-    let lent = lent-well (length (a .states .now)) (a .count) (one .one-each .result) 0 (sym (judged .lent-refusal .ensures) ∙ c .before .if1 .taken) .0 in
-    ((lent .few, omega (arith, lent .whole, lent .few)), eqb-true (length (a .list .now)) (a .centres * entryWidth) (sym (one .one-each .ensures) ∙ lent .is-listed))
+    let lent = lent-well (length (a .states .now)) (a .roster) (one .one-each .result) 0 (sym (judged .lent-refusal .ensures) ∙ c .before .if1 .taken) .0 in (
+      (lent .few, has-room (length (a .states .now)) (a .roster) (one .one-each .result) lent (a .roster .count) (lent .few)),
+      eqb-true (length (a .list .now)) (a .roster .centres * entryWidth) (sym (one .one-each .ensures) ∙ lent .is-listed),
+    )
 
 -- What the two ways out show of a list, by the number.
-module _ (run : List ℕ) (count centres : ℕ) (list : List ℕ) {number : ℕ} (e : number ≡ summaryRefusal run count centres list) where
-  stays : (number ≡ 0 → ⊥) → list ≡ summaryList run count centres list
+module _ (run : List ℕ) (roster : Roster) (list : List ℕ) {number : ℕ} (e : number ≡ summaryRefusal run roster list) where
+  stays : (number ≡ 0 → ⊥) → list ≡ summaryList run roster list
   unfolding summaryList
-  stays h = if-refused (summaryRefusal run count centres list) list (asWords (entriesOf (inUse run count) centres)) (λ z. h (e ∙ z))
+  stays h = if-refused (summaryRefusal run roster list) list (asWords (entriesIn roster run)) (λ z. h (e ∙ z))
 
-  becomes : {after : List ℕ} → number ≡ 0 → after ≡ asWords (entriesOf (inUse run count) centres) → after ≡ summaryList run count centres list
+  becomes : {after : List ℕ} → number ≡ 0 → after ≡ asWords (entriesIn roster run) → after ≡ summaryList run roster list
   unfolding summaryList
-  becomes z p = p ∙ if-made (summaryRefusal run count centres list) list (asWords (entriesOf (inUse run count) centres)) (sym e ∙ z)
+  becomes z p = p ∙ if-made (summaryRefusal run roster list) list (asWords (entriesIn roster run)) (sym e ∙ z)
+
+-- The number is that of the refusal.
+told : (c : tie.After-lent-refusal) → let a = c .before .before .before .before .args in c .lent-refusal .result ≡ summaryRefusal (a .states .now) (a .roster) (a .list .now)
+told c =
+    let a = c .before .before .before .before .args in
+    c .lent-refusal .ensures ∙ ap (λ (l : Bool). lentRefusal (length (a .states .now)) (a .roster) l 0) (c .before .one-each .ensures)
 
 returns : tie.Need-returns
 returns c =
     let put-all = c .before .before in
     let test = put-all .before .before in
-    let judged = test .before in
-    let one = judged .before in
-    let a = one .before .before .before .args in
-    let e = judged .lent-refusal .ensures ∙ ap (λ (l : Bool). lentRefusal (length (a .states .now)) (a .count) l 0) (one .one-each .ensures) in
-    (e, becomes (a .states .now) (a .count) (a .centres) (a .list .now) e (test .if1 .taken) (put-all .put-entries .ensures))
+    let a = test .before .before .before .before .before .args in
+    (told (test .before), becomes (a .states .now) (a .roster) (a .list .now) (told (test .before)) (test .if1 .taken) (put-all .put-entries .ensures))
 
 returns-2 : tie.Need-returns-2
 returns-2 c =
-    let judged = c .before in
-    let one = judged .before in
-    let a = one .before .before .before .args in
-    let e = judged .lent-refusal .ensures ∙ ap (λ (l : Bool). lentRefusal (length (a .states .now)) (a .count) l 0) (one .one-each .ensures) in
-    (e, stays (a .states .now) (a .count) (a .centres) (a .list .now) e (c .if1 .left))
+    let a = c .before .before .before .before .before .args in
+    (told (c .before), stays (a .states .now) (a .roster) (a .list .now) (told (c .before)) (c .if1 .left))
 
 pub summary-spec : {M : Type 1} → statement M
 summary-spec =

@@ -6,7 +6,10 @@ use Rattle.kelubashi.proofs.answers.reading_words.Tie as tie
 
 returns : tie.Need-returns
 unfolding readingWords
-returns c = simp (c .before .reading .given .1)
+returns c =
+    let b = c .before .before .before in
+    let a = b .before .before in
+    simp (a .before .before .reading .given .1, a .place .ensures .0, b .place2 .ensures .0, c .before .place3 .ensures .0)
 
 returns-2 : tie.Need-returns-2
 unfolding readingWords
@@ -16,6 +19,12 @@ pub reading-words-spec : {M : Type 1} → statement M
 reading-words-spec =
     tie.close
     (tie.spec
+    (λ c. search needs)
+    (λ c κs. search needs)
+    (λ c. search needs)
+    (λ c κs. search needs)
+    (λ c. search needs)
+    (λ c κs. search needs)
     (λ c. search needs)
     (λ c. search needs)
     returns

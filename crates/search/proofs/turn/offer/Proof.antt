@@ -4,16 +4,10 @@ use borrow.Author.Needs.{needs}
 use Rattle.search.proofs.turn.offer.Statement.{statement}
 use Rattle.search.proofs.turn.offer.Tie as tie
 
-returns : tie.Need-returns
-returns c = simp (eq-eqb _ _ (c .before .if1 .taken)) (c .proposal .ensures)
-
-returns-2 : tie.Need-returns-2
-returns-2 c = simp (ne-eqb _ _ (c .if1 .left))
-
 pub offer-spec : {M : Type 1} → statement M
 offer-spec =
     tie.close
     (tie.spec
     (λ c κs. search needs)
-    returns
-    returns-2)
+    (λ c. simp (eq-eqb _ _ (c .before .if1 .taken)) (c .proposal .ensures))
+    (λ c. simp (ne-eqb _ _ (c .if1 .left))))

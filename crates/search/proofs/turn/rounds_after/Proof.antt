@@ -4,16 +4,10 @@ use borrow.Author.Needs.{needs}
 use Rattle.search.proofs.turn.rounds_after.Statement.{statement}
 use Rattle.search.proofs.turn.rounds_after.Tie as tie
 
-returns : tie.Need-returns
-returns c = simp (eq-eqb _ _ (c .if1 .taken))
-
-returns-2 : tie.Need-returns-2
-returns-2 c = simp (ne-eqb _ _ (c .if1 .left))
-
 pub rounds-after-spec : {M : Type 1} → statement M
 rounds-after-spec =
     tie.close
     (tie.spec
     (λ c. search needs)
-    returns
-    returns-2)
+    (λ c. simp (eq-eqb _ _ (c .if1 .taken)))
+    (λ c. simp (ne-eqb _ _ (c .if1 .left))))

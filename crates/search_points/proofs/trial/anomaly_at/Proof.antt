@@ -14,14 +14,6 @@ returns : tie.Need-returns
 unfolding anomalyAt div ofBits
 returns c = simp (le-leb _ _ (c .if1 .taken))
 
-add-t6 : tie.Need-add-t6
-add-t6 c = let a = c .before .before .args in omega (arith, sign-bound (lt (a .tau .0) n0), c .sign-of .ensures)
-
-float-from-bits-t7 : tie.Need-float-from-bits-t7
-float-from-bits-t7 c =
-    let a = c .before .before .args in
-    rw (c .sign-of .ensures) (no-nan-bits _ (signed-field (lt (a .tau .0) n0) (a .place) (omega arith)))
-
 returns-2 : tie.Need-returns-2
 unfolding anomalyAt
 returns-2 c =
@@ -34,6 +26,6 @@ anomaly-at-spec =
     (tie.spec
     returns
     (λ c κs. search needs)
-    add-t6
-    float-from-bits-t7
+    (λ c. let a = c .before .before .args in omega (arith, sign-bound (lt (a .tau .0) n0), c .sign-of .ensures))
+    (λ c. let a = c .before .before .args in rw (c .sign-of .ensures) (no-nan-bits _ (signed-field (lt (a .tau .0) n0) (a .place) (omega arith))))
     returns-2)

@@ -3,13 +3,10 @@ use borrow.Author.Needs.{needs}
 use Rattle.search_points.proofs.trial.point_of.Statement.{statement}
 use Rattle.search_points.proofs.trial.point_of.Tie as tie
 
-returns : tie.Need-returns
-returns c = simp (c .sort-of .ensures, c .before .time-error .ensures)
-
 pub point-of-spec : {M : Type 1} → statement M
 point-of-spec =
     tie.close
     (tie.spec
     (λ c κs. search needs)
     (λ c κs. search needs)
-    returns)
+    (λ c. simp (c .sort-of .ensures, c .before .time-error .ensures)))

@@ -5,11 +5,6 @@ use Rattle.search_points.proofs.Points.{short-back, past-back, short-on
 use Rattle.search_points.proofs.trial.sort_of.Statement.{statement}
 use Rattle.search_points.proofs.trial.sort_of.Tie as tie
 
-returns : tie.Need-returns
-returns c =
-    let a = c .before .before .before .args in
-    short-back (a .tau) (a .error) (c .before .if1 .taken) (c .if2 .taken)
-
 returns-2 : tie.Need-returns-2
 returns-2 c =
     let a = c .before .before .before .before .args in
@@ -19,11 +14,6 @@ returns-3 : tie.Need-returns-3
 returns-3 c =
     let a = c .before .before .before .before .before .args in
     c .sort-without-sign .ensures ∙ unsigned (a .tau) (a .error) (c .before .before .if2 .left) (c .before .if3 .left)
-
-returns-4 : tie.Need-returns-4
-returns-4 c =
-    let a = c .before .before .before .args in
-    short-on (a .tau) (a .error) (c .before .if1 .left) (c .if4 .taken)
 
 returns-5 : tie.Need-returns-5
 returns-5 c =
@@ -39,11 +29,11 @@ pub sort-of-spec : {M : Type 1} → statement M
 sort-of-spec =
     tie.close
     (tie.spec
-    returns
+    (λ c. let a = c .before .before .before .args in short-back (a .tau) (a .error) (c .before .if1 .taken) (c .if2 .taken))
     returns-2
     (λ c κs. search needs)
     returns-3
-    returns-4
+    (λ c. let a = c .before .before .before .args in short-on (a .tau) (a .error) (c .before .if1 .left) (c .if4 .taken))
     returns-5
     (λ c κs. search needs)
     returns-6)

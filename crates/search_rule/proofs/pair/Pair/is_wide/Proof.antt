@@ -7,13 +7,10 @@ use Rattle.search_rule.specs.Rule.{gap}
 use Rattle.search_rule.proofs.pair.Pair.is_wide.Statement.{statement}
 use Rattle.search_rule.proofs.pair.Pair.is_wide.Tie as tie
 
-returns-2 : tie.Need-returns-2
-returns-2 c = let e : gap (c .before .before .args .self) ≤ 1 = omega arith in simp (le-ltb _ _ e)
-
 pub is-wide-spec : {M : Type 1} → statement M
 is-wide-spec =
     tie.close
     (tie.spec
     (λ c. search needs)
     (λ c. search needs)
-    returns-2)
+    (λ c. let e : gap (c .before .before .args .self) ≤ 1 = omega arith in simp (le-ltb _ _ e)))

@@ -1,0 +1,4 @@
+pub mod CheckLaws
+pub mod WalkLaws
+pub mod CountedLaws
+pub mod OneAnswers

@@ -1,0 +1,4 @@
+pub mod EditionLaws
+pub mod FirstLaws
+pub mod TableLaws
+pub mod OneAnswers
