@@ -172,7 +172,8 @@ pub fn write_file(
     room: &mut [u8],
 ) -> Writing
     ensures answer { λ r. ⌜ r ≡ writingOf edition (runsOf (now (centres .entry)) (now (states .entry)) (now (requests .entry))) (now (room .entry)) ⌝ }
-    ensures room { λ _. ⌜ now (room .exit) ≡ roomOf edition (runsOf (now (centres .entry)) (now (states .entry)) (now (requests .entry))) (now (room .entry)) ⌝ }
+    ensures room { λ _. ⌜ now (room .exit)
+        ≡ roomOf edition (runsOf (now (centres .entry)) (now (states .entry)) (now (requests .entry))) (now (room .entry)) ⌝ }
 {
     match judge(edition, centres, states, requests, room.len()) {
         Reading::Refused { number, place } => Writing::Refused { number, place },

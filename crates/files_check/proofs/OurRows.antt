@@ -46,9 +46,6 @@ use Rattle.files_check.proofs.RowsLaws.{our-rows-pass, judges-rows}
 abbrev Double : Float → Type 0
 Double x = T (fits binary64 x)
 
-word-below : (x : Float) → Double x → toBits binary64 x < 2 ^ 64
-word-below x f = toBits-lt binary64 x f
-
 abbrev Doubles : Vector → Type 0
 Doubles v = Double (v .x) × Double (v .y) × Double (v .z)
 
@@ -70,7 +67,7 @@ acceleration-doubles mu r q = (
 -- The words of three figures, before others.
 three-below : (v : Vector) {Rest : Type 0} → Doubles v → Rest →
     (toBits binary64 (v .x) < 2 ^ 64) × ((toBits binary64 (v .y) < 2 ^ 64) × ((toBits binary64 (v .z) < 2 ^ 64) × Rest))
-three-below v d rest = (word-below (v .x) (d .0), (word-below (v .y) (d .1), (word-below (v .z) (d .2), rest)))
+three-below v d rest = (toBits-lt binary64 (v .x) (d .0), (toBits-lt binary64 (v .y) (d .1), (toBits-lt binary64 (v .z) (d .2), rest)))
 
 nine-below : (r : Results) → Doubles (r .end .position) → Doubles (r .end .velocity) → Doubles (r .«end_acceleration») → Below (2 ^ 64) (nineWords r)
 unfolding figuresOf
@@ -104,7 +101,7 @@ module _ (s : Start) (d : Interval) (psi : Anomaly) (double : Double (psi .0)) w
       let same : a .results ≡ results = ap (λ (x : Answer). x .results) e in
       let is-psi : a .results .psi ≡ psi = ap (λ (r : Results). r .psi) same ∙ psi-of s d psi in
       record {
-        anomaly = subst (λ (x : Anomaly). toBits binary64 (x .0) < 2 ^ 64) (sym is-psi) (word-below (psi .0) double);
+        anomaly = subst (λ (x : Anomaly). toBits binary64 (x .0) < 2 ^ 64) (sym is-psi) (toBits-lt binary64 (psi .0) double);
         nine = subst (λ (r : Results). Below (2 ^ 64) (nineWords r)) (sym same) (arc-below s d psi);
       }
   by-settled a n (inr (inl e)) z = absurd (omega (arith, z, ap (λ (x : Answer). x .refusal) e, refusal-of 7 n))

@@ -1,5 +1,5 @@
 -- What is known of a sound file of rows, so that nobody opens its check.
-use Prim.Native.Nat.{ℕ, _≤_}
+use Prim.Native.Nat.{ℕ}
 use mathlib.Core.Path.{_≡_, refl}
 use mathlib.Core.Bool.{Bool, true, false}
 use mathlib.Core.Logic.{_⊎_, inl, inr}
@@ -20,9 +20,6 @@ unfolding rowsCheck
 sound-so file e =
     let filled = filled-sound file checkedCountPlace mostChecked checkedWidth e in
     record { few = omega (arith, filled .0); size = omega (arith, filled .1) }
-
-pub few-rows : (file : List ℕ) → rowsCheck file ≡ Sound → rowsIn file ≤ mostChecked
-few-rows file e = sound-so file e .few
 
 -- A refused file, or one whose verdicts have no room, leaves the run as it was.
 by-check : (file run : List ℕ) (rows : ℕ) (c : Check) → (judgedBy c rows (length run) .number ≡ 0) ⊎ (verdictsBy c file rows run ≡ run)

@@ -1,5 +1,6 @@
--- Document 01, "Element file, edition 1": "the edition, 1; then sections in a fixed order, each after its count: centres (0 to 16, one word: μ); states (0 to 500,
--- eight words: centre number, epoch, x y z vx vy vz); requests (0 to 1,500, two words: state number, time)." An edition is its table and its columns' numbers.
+-- Document 01, "Element file, edition 1": "the edition, 1; then sections in a fixed order, each after its count: centres (0 to 16, one word: μ); states (0
+-- to 500, eight words: centre number, epoch, x y z vx vy vz); requests (0 to 1,500, two words: state number, time)." An edition is its table and its
+-- columns' numbers.
 use Prim.Native.Nat.{ℕ, _+_}
 use mathlib.Core.Bool.{Bool}
 use mathlib.Core.List.{List, [], _∷_}

@@ -9,7 +9,7 @@ use Rattle.files_checks.specs.declared.Check.{Check}
 use Rattle.files_checks.specs.declared.Check.the-variants.{Sound}
 use Rattle.files_check.specs.RowsFile.{rowsIn, rowsCheck, judgedBy, judgedOf, verdictsBy, verdictsAfter}
 use Rattle.files_check.specs.declared.Judged.{Judged}
-use Rattle.files_check.proofs.Sound.{few-rows}
+use Rattle.files_check.proofs.Sound.{sound-so}
 use Rattle.files_check.proofs.judge.Statement.{statement}
 use Rattle.files_check.proofs.judge.Tie as tie
 
@@ -23,7 +23,7 @@ judge-rows-requires : tie.Need-judge-rows-requires
 judge-rows-requires c κs =
     let p = c .before .before .before .before in
     let sound = sym (p .check-rows .ensures) ∙ c .before .before .enum-told .given .1 in
-    omega (arith, c .before .word-at .ensures, few-rows (p .before .before .before .args .file .now) sound)
+    omega (arith, c .before .word-at .ensures, sound-so (p .before .before .before .args .file .now) sound .few)
 
 returns : tie.Need-returns
 returns c =
