@@ -16,9 +16,9 @@
 **
 **  No call keeps anything between calls: they are reentrant, and safe in several threads at once. They
 **  need SSE2 and nothing newer of the processor, memset and nothing else of libc, and of the stack at
-**  most 60 bytes (interval), 100 (root), 200 (read, compare, summary, append, withdraw), 300 (write), 1,100
-**  (propagate), 1,300 (results), 1,600 (check) or 2,000 (partials). They may raise floating-point flags, as
-**  fetestexcept shows them, and lower none.
+**  most 60 bytes (interval), 100 (root), 200 (compare, summary, append, withdraw), 300 (write), 400 (read),
+**  1,100 (propagate), 1,300 (results), 1,600 (check) or 2,000 (partials). They may raise floating-point
+**  flags, as fetestexcept shows them, and lower none.
 **
 **  The figures are those of a processor that rounds to nearest and keeps subnormal numbers, as
 **  programs find it when they start. Do not link with -ffast-math, which changes that.

@@ -34,35 +34,26 @@ pub is-nearest-word : (b r : ℕ) → NearestRoot b r → r ≡ nearestWord b
 unfolding nearestWord
 is-nearest-word b r n = sym (found 63 (rootSquared b) 0 r (omega arith) (omega (arith, n .bounded)) (n .low) (n .high))
 
--- What is answered at b is `rootRefusalOf b` and `rootWordOf b`.
-pub answered : (b c r : ℕ) → RootAnswer b c r → (c ≡ rootRefusalOf b) × (r ≡ rootWordOf b)
+-- So two words that are nearest to the root of b are the same.
+pub one-nearest : (b r s : ℕ) → NearestRoot b r → NearestRoot b s → r ≡ s
+one-nearest b r s p q = is-nearest-word b r p ∙ sym (is-nearest-word b s q)
+
+-- What is answered at b is `rootRefusalOf b` and `rootWordOf b`; and that word is a finite double's.
+pub answered : (b c r : ℕ) → RootAnswer b c r → (c ≡ rootRefusalOf b) × (r ≡ rootWordOf b) × (r < infinity)
 unfolding rootWordOf
 answered b c r a = elim (decLe infinity b) [
   | yes i ↦
       let t = le-leb infinity b i in
       elim (ℕ-discrete b minusZero) [
-        | yes z ↦ (a .minus-zero z .0 ∙ sym (rw (t, eq-eqb b minusZero z)), a .minus-zero z .1 ∙ sym (rw t))
-        | no z ↦ (a .otherwise i z .0 ∙ sym (rw (t, ne-eqb b minusZero z)), a .otherwise i z .1 ∙ sym (rw t))
+        | yes z ↦ let x = a .minus-zero z in (x .0 ∙ sym (rw (t, eq-eqb b minusZero z)), x .1 ∙ sym (rw t), omega (arith, x .1))
+        | no z ↦ let x = a .otherwise i z in (x .0 ∙ sym (rw (t, ne-eqb b minusZero z)), x .1 ∙ sym (rw t), omega (arith, x .1))
       ]
   | no f ↦
       let t = lt-leb infinity b (omega arith) in
       elim (ℕ-discrete b 0) [
-        | yes z ↦ (a .plus-zero z .0 ∙ sym (rw t), a .plus-zero z .1 ∙ sym (rw (t, eq-eqb b 0 z)))
+        | yes z ↦ let x = a .plus-zero z in (x .0 ∙ sym (rw t), x .1 ∙ sym (rw (t, eq-eqb b 0 z)), omega (arith, x .1))
         | no z ↦
-            let n = a .above-zero (omega arith) (omega arith) in
-            (n .0 ∙ sym (rw t), is-nearest-word b r (n .1) ∙ sym (rw (t, ne-eqb b 0 z)))
+            let x = a .above-zero (omega arith) (omega arith) in
+            (x .0 ∙ sym (rw t), is-nearest-word b r (x .1) ∙ sym (rw (t, ne-eqb b 0 z)), x .1 .bounded)
       ]
-]
-
--- The word that is answered is a finite double's.
-pub word-bounded : (b c r : ℕ) → RootAnswer b c r → r < infinity
-word-bounded b c r a = elim (decLe infinity b) [
-  | yes i ↦ elim (ℕ-discrete b minusZero) [
-    | yes z ↦ omega (arith, a .minus-zero z .1)
-    | no z ↦ omega (arith, a .otherwise i z .1)
-  ]
-  | no f ↦ elim (ℕ-discrete b 0) [
-    | yes z ↦ omega (arith, a .plus-zero z .1)
-    | no z ↦ a .above-zero (omega arith) (omega arith) .1 .bounded
-  ]
 ]

@@ -20,11 +20,8 @@ leading t T S =
     let (j, z, lo, hi) = leading-top 64 t T (omega arith) in
     (j, z, lo, hi, lt-of-not-le (λ (g : 53 ≤ j). not-le-of-lt S (le-trans (pow-mono g) lo)))
 
-pub zeros-enough : {t : ℕ} → 0 < t → t < 2 ^ 53 → 11 ≤ leadingZeros 64 t
-zeros-enough {t} T S = let (j, z, lo, hi, J) = leading t T S in omega arith
-
-pub up-small : {t : ℕ} → 0 < t → t < 2 ^ 53 → up t ≤ 52
-up-small {t} T S = let (j, z, lo, hi, J) = leading t T S in omega arith
+pub up-small : {t : ℕ} → 0 < t → t < 2 ^ 53 → (11 ≤ leadingZeros 64 t) × (up t ≤ 52)
+up-small {t} T S = let (j, z, lo, hi, J) = leading t T S in (omega arith, omega arith)
 
 pub moved-up : (t : ℕ) → 0 < t → t < 2 ^ 53 → Normalised t (t * 2 ^ up t) (52 - up t)
 moved-up t T S =

@@ -1,13 +1,13 @@
 -- The line of doubles: the order and the equality of the numbers are those of their places, and a word and its place give one another back.
 use mathlib.Core.Path.{_≡_, refl, sym, ap, ap₂, _∙_, subst}
-use mathlib.Core.Bool.{Bool, true, false, not, _&&_, _||_, Bool·beq}
+use mathlib.Core.Bool.{Bool, true, false, not, _&&_, true≢false}
 use Prim.Native.Nat.{ℕ, _+_, _-_, _*_, _%_, _^_, _≤_, _<_}
-use native.Mathlib.Nat.{le-antisymm, le-of-eq, mul-le-mul-right, le-of-mul-le-mul-right}
+use native.Mathlib.Nat.{le-of-eq, mul-le-mul-right, le-of-mul-le-mul-right}
 use native.Mathlib.Decide.{decLe, decLt}
 use native.Mathlib.Omega.{arith}
-use borrow.Author.Tests.{lt-ltb, le-ltb, ltb-false, lt-leb, le-leb, eq-eqb, ne-eqb, eqb-true, eqb-false}
+use borrow.Author.Tests.{lt-ltb, le-ltb, ltb-false, lt-leb, le-leb, eq-eqb, ne-eqb}
 use lib.Dec.{ltb, leb, eqb}
-use lib.Ieee.{Float, nan, inf, fin, binary64, lt, eq, below, level, up, down, ofBits, ofFields}
+use lib.Ieee.{Float, isNan, nan, inf, fin, binary64, lt, eq, below, level, up, down, ofBits, ofFields}
 use lib.Ieee.Bits.{nanBits-is, nanBits-above}
 use lib.Ieee.Exact.{HasValue}
 use lib.Ieee.Order.{transfer}
@@ -62,7 +62,7 @@ place-back p z h = elim (decLt p minusZero) [
 ]
 
 -- ---- Tests of numbers that have the same outcome.
-same-ltb : (x y a b : ℕ) → (y ≤ x → b ≤ a) → (b ≤ a → y ≤ x) → ltb x y ≡ ltb a b
+pub same-ltb : (x y a b : ℕ) → (y ≤ x → b ≤ a) → (b ≤ a → y ≤ x) → ltb x y ≡ ltb a b
 same-ltb x y a b f g = elim (decLe b a) [
   | yes l ↦ le-ltb x y (g l) ∙ sym (le-ltb a b l)
   | no n ↦ elim (decLe y x) [
@@ -70,13 +70,6 @@ same-ltb x y a b f g = elim (decLe b a) [
     | no m ↦ lt-ltb x y (omega arith) ∙ sym (lt-ltb a b (omega arith))
   ]
 ]
-
-same-eqb : (x y a b : ℕ) → (x ≡ y → a ≡ b) → (a ≡ b → x ≡ y) → eqb x y ≡ eqb a b
-same-eqb x y a b f g = go (eqb a b) refl
-  where
-    go : (t : Bool) → eqb a b ≡ t → eqb x y ≡ eqb a b
-    go true e = eq-eqb x y (g (eqb-true a b e)) ∙ sym e
-    go false e = ne-eqb x y (λ q. eqb-false a b e (f q)) ∙ sym e
 
 -- x and y are to one another, and to zero, as a and b are.
 record Alike (x y a b : ℕ) : Type 0 where
@@ -94,22 +87,6 @@ below-alike false true x y a b h = refl
 below-alike true false x y a b h =
     same-ltb 0 (x + y) 0 (a + b) (λ l. le-of-eq (h .zeros-back (omega arith))) (λ l. le-of-eq (h .zeros (omega arith)))
 below-alike true true x y a b h = same-ltb y x b a (h .rise-back) (h .rise)
-
-level-alike : (s t : Bool) (x y a b : ℕ) → Alike x y a b → level s x t y ≡ level s a t b
-level-alike s t x y a b h = go (eqb a b) refl
-  where
-    equal : eqb x y ≡ eqb a b
-    equal =
-        same-eqb x y a b (λ e. le-antisymm (h .rise-back (le-of-eq e)) (h .fall-back (le-of-eq (sym e))))
-        (λ e. le-antisymm (h .rise (le-of-eq e)) (h .fall (le-of-eq (sym e))))
-
-    go : (r : Bool) → eqb a b ≡ r → level s x t y ≡ level s a t b
-    go true e =
-        let k : a ≡ b = eqb-true a b e in
-        let l : x ≡ y = eqb-true x y (equal ∙ e) in
-        ap₂ (λ (p q : Bool). p && (Bool·beq s t || q)) equal
-        (same-eqb x 0 a 0 (λ z. let o = h .zeros-back (omega arith) in omega arith) (λ z. let o = h .zeros (omega arith) in omega arith))
-    go false e = ap (λ (p : Bool). p && (Bool·beq s t || eqb x 0)) (equal ∙ e) ∙ sym (ap (λ (p : Bool). p && (Bool·beq s t || eqb a 0)) e)
 
 -- ---- The numbers x / d and y / e that are `units a` / c and `units b` / c: they are to one another as the words a and b are.
 units-back : (a b : ℕ) → units a ≤ units b → a ≤ b
@@ -164,7 +141,7 @@ both-infinite false true = refl
 both-infinite true false = refl
 both-infinite true true = refl
 
--- Two numbers are ordered as their words are, the signs being minded; and they are equal where the words are, or where both are zero.
+-- Two numbers are ordered as their words are, the signs being minded.
 lt-number : (x y : Float) (s t : Bool) (a b c : ℕ) → 0 < c → Number x s a c → Number y t b c → lt x y ≡ below s a t b
 unfolding lt
 lt-number nan y s t a b c C p q = absurd p
@@ -177,28 +154,6 @@ lt-number (fin u m d) (fin v n e) s t a b c C p q =
     below-alike u v (m * up d * down e) (n * up e * down d) a b
     (alike c C a b (m * up d) (n * up e) (down d) (down e) (den-pos (fin u m d)) (den-pos (fin v n e)) (p .1 .1) (q .1 .1))
     ∙ ap₂ (λ (k l : Bool). below k a l b) (p .0) (q .0)
-
-level-both : (s t : Bool) → level s infinity t infinity ≡ Bool·beq s t
-level-both false false = refl
-level-both false true = refl
-level-both true false = refl
-level-both true true = refl
-
-level-one : (s t : Bool) (a b : ℕ) → (a ≡ b → ⊥) → level s a t b ≡ false
-level-one s t a b h = ap (λ (k : Bool). k && (Bool·beq s t || eqb a 0)) (ne-eqb a b h)
-
-eq-number : (x y : Float) (s t : Bool) (a b c : ℕ) → 0 < c → Number x s a c → Number y t b c → eq x y ≡ level s a t b
-unfolding eq
-eq-number nan y s t a b c C p q = absurd p
-eq-number (inf u) nan s t a b c C p q = absurd q
-eq-number (fin u m d) nan s t a b c C p q = absurd q
-eq-number (inf u) (inf v) s t a b c C p q = rw (p .1, q .1) (ap₂ Bool·beq (p .0) (q .0) ∙ sym (level-both s t))
-eq-number (inf u) (fin v n e) s t a b c C p q = sym (level-one s t a b (λ h. omega (arith, p .1, q .1 .0)))
-eq-number (fin u m d) (inf v) s t a b c C p q = sym (level-one s t a b (λ h. omega (arith, q .1, p .1 .0)))
-eq-number (fin u m d) (fin v n e) s t a b c C p q =
-    level-alike u v (m * up d * down e) (n * up e * down d) a b
-    (alike c C a b (m * up d) (n * up e) (down d) (down e) (den-pos (fin u m d)) (den-pos (fin v n e)) (p .1 .1) (q .1 .1))
-    ∙ ap₂ (λ (k l : Bool). level k a l b) (p .0) (q .0)
 
 of-value : (x : Float) (s : Bool) (a c : ℕ) → a < infinity → HasValue x s (units a) c → Number x s a c
 of-value nan s a c h v = v
@@ -261,34 +216,57 @@ in-order v w h k p q =
     ∙ below-placed (leb (2 ^ 63) v) (leb (2 ^ 63) w) (v % 2 ^ 63) (w % 2 ^ 63) (omega arith) (omega arith)
     ∙ sym (ap₂ ltb (line-placed v h) (line-placed w k))
 
+-- ---- Equal is what neither is below: whole numbers, numbers with a sign, and doubles that are no NaNs.
+neither : (a b : ℕ) → (eqb a b ≡ not (ltb a b) && not (ltb b a)) × (eqb a b ≡ not (ltb b a) && not (ltb a b))
+neither a b = elim (decLt a b) [
+  | yes l ↦ rw (lt-ltb a b l, le-ltb b a (omega arith), ne-eqb a b (λ e. omega arith)) (refl, refl)
+  | no g ↦ elim (decLt b a) [
+    | yes l ↦ rw (le-ltb a b (omega arith), lt-ltb b a l, ne-eqb a b (λ e. omega arith)) (refl, refl)
+    | no k ↦ rw (le-ltb a b (omega arith), le-ltb b a (omega arith), eq-eqb a b (omega arith)) (refl, refl)
+  ]
+]
+
+neither-zero : (a b : ℕ) → (eqb a b && eqb a 0 ≡ not (ltb 0 (b + a))) × (eqb a b && eqb a 0 ≡ not (ltb 0 (a + b)) && true)
+neither-zero a b = elim (decLt 0 (a + b)) [
+  | yes l ↦ rw (lt-ltb 0 (a + b) l, lt-ltb 0 (b + a) (omega arith)) (elim (decLt 0 a) [
+    | yes k ↦ rw (ne-eqb a 0 (λ e. omega arith)) (and-false (eqb a b), and-false (eqb a b))
+    | no k ↦ rw (ne-eqb a b (λ e. omega arith)) (refl, refl)
+  ])
+  | no g ↦ rw (le-ltb 0 (a + b) (omega arith), le-ltb 0 (b + a) (omega arith), eq-eqb a b (omega arith), eq-eqb a 0 (omega arith)) (refl, refl)
+]
+  where
+    and-false : (r : Bool) → r && false ≡ false
+    and-false true = refl
+    and-false false = refl
+
 and-true : (r : Bool) → r && true ≡ r
 and-true true = refl
 and-true false = refl
 
--- A number with its sign bit set and one without it are equal where both are zero.
-not-zeros : (a b : ℕ) → 0 < a + b → eqb a b && eqb a 0 ≡ false
-not-zeros a b h = go (eqb a b) refl
-  where
-    go : (r : Bool) → eqb a b ≡ r → eqb a b && eqb a 0 ≡ false
-    go true e = let k : a ≡ b = eqb-true a b e in ap₂ (λ (p q : Bool). p && q) e (ne-eqb a 0 (λ z. omega arith))
-    go false e = ap (λ (p : Bool). p && eqb a 0) e
+level-neither : (s t : Bool) (a b : ℕ) → level s a t b ≡ not (below s a t b) && not (below t b s a)
+level-neither false false a b = and-true (eqb a b) ∙ neither a b .0
+level-neither false true a b = neither-zero a b .0
+level-neither true false a b = neither-zero a b .1
+level-neither true true a b = and-true (eqb a b) ∙ neither a b .1
 
-both-zero : (a b : ℕ) → eqb a b && eqb a 0 ≡ eqb (a + b) 0
-both-zero a b = elim (decLt 0 (a + b)) [
-  | yes l ↦ not-zeros a b l ∙ sym (ne-eqb (a + b) 0 (λ e. omega arith))
-  | no g ↦ ap₂ (λ (p q : Bool). p && q) (eq-eqb a b (omega arith)) (eq-eqb a 0 (omega arith)) ∙ sym (eq-eqb (a + b) 0 (omega arith))
-]
+pub eq-neither : (x y : Float) → isNan x ≡ false → isNan y ≡ false → eq x y ≡ not (lt x y) && not (lt y x)
+unfolding eq lt isNan
+eq-neither nan y p q = absurd (true≢false p)
+eq-neither (inf s) nan p q = absurd (true≢false q)
+eq-neither (fin s m e) nan p q = absurd (true≢false q)
+eq-neither (inf true) (inf true) p q = refl
+eq-neither (inf true) (inf false) p q = refl
+eq-neither (inf false) (inf true) p q = refl
+eq-neither (inf false) (inf false) p q = refl
+eq-neither (inf true) (fin t n d) p q = refl
+eq-neither (inf false) (fin t n d) p q = refl
+eq-neither (fin s m e) (inf true) p q = refl
+eq-neither (fin s m e) (inf false) p q = refl
+eq-neither (fin s m e) (fin t n d) p q = level-neither s t (m * up e * down d) (n * up d * down e)
 
-level-placed : (s t : Bool) (a b : ℕ) → a < minusZero → b < minusZero → level s a t b ≡ eqb (placed s a) (placed t b)
-level-placed false false a b h k = and-true (eqb a b) ∙ same-eqb a b (minusZero + a) (minusZero + b) (λ e. omega arith) (λ e. omega arith)
-level-placed false true a b h k = both-zero a b ∙ same-eqb (a + b) 0 (minusZero + a) (minusZero - b) (λ e. omega arith) (λ e. omega arith)
-level-placed true false a b h k = both-zero a b ∙ same-eqb (a + b) 0 (minusZero - a) (minusZero + b) (λ e. omega arith) (λ e. omega arith)
-level-placed true true a b h k = and-true (eqb a b) ∙ same-eqb a b (minusZero - a) (minusZero - b) (λ e. omega arith) (λ e. omega arith)
-
--- Equal places are equal numbers.
+-- So equal places are equal numbers.
 pub same-place : (v w : ℕ) → v < 2 ^ 64 → w < 2 ^ 64 → isNanWord v ≡ false → isNanWord w ≡ false →
     eq (ofBits binary64 v) (ofBits binary64 w) ≡ eqb (lineOf v) (lineOf w)
 same-place v w h k p q =
-    eq-number (ofBits binary64 v) (ofBits binary64 w) (leb (2 ^ 63) v) (leb (2 ^ 63) w) (v % 2 ^ 63) (w % 2 ^ 63) (2 ^ 1074) (pow-pos 1074) (number v p) (number w q)
-    ∙ level-placed (leb (2 ^ 63) v) (leb (2 ^ 63) w) (v % 2 ^ 63) (w % 2 ^ 63) (omega arith) (omega arith)
-    ∙ sym (ap₂ eqb (line-placed v h) (line-placed w k))
+    eq-neither (ofBits binary64 v) (ofBits binary64 w) p q ∙ ap₂ (λ (x y : Bool). not x && not y) (in-order v w h k p q) (in-order w v k h q p)
+    ∙ sym (neither (lineOf v) (lineOf w) .0)

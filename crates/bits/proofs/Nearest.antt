@@ -63,15 +63,12 @@ rootSquared-is b m e h =
     regroup (units b) (2 ^ 52) (2 ^ 54) m (2 ^ e) (1 + e % 2) (2 ^ (e / 2)) (2 ^ 485) h (two-halves e)
     ∙ ap (λ (x : ℕ). m * (1 + e % 2) * 2 ^ 54 * (x * x)) (sym (pow-add 2 (e / 2) 485))
 
-square-scaled : (a g : ℕ) → a * g * (a * g) ≡ a * a * (g * g)
-square-scaled a g = mul-mul-mul-comm a g a g
-
 module _ (b x h n : ℕ) (t : rootSquared b ≡ x * (2 ^ h * 2 ^ h)) (H : 1 ≤ h) (J : h ≤ 2044) (lo : (2 * n - 1) * (2 * n - 1) < x) (hi : x < (2 * n + 1) * (2 * n + 1)) (big : 2 ^ 106 ≤ x) (A : 2 ^ 52 ≤ n) (B : n < 2 ^ 53) where
   scale-pos : 0 < 2 ^ h * 2 ^ h
   scale-pos = mul-pos (pow-pos h) (pow-pos h)
 
   at-least : (s a : ℕ) → s ≤ a * 2 ^ h → a * a < x → s * s < rootSquared b
-  at-least s a l k = lt-of-le-of-lt (mul-le-mul l l) (lt-of-le-of-lt (le-of-eq (square-scaled a (2 ^ h))) (lt-of-lt-of-le (mul-lt-mul-of-pos-right k scale-pos) (le-of-eq (sym t))))
+  at-least s a l k = lt-of-le-of-lt (mul-le-mul l l) (lt-of-le-of-lt (le-of-eq (mul-mul-mul-comm a (2 ^ h) a (2 ^ h))) (lt-of-lt-of-le (mul-lt-mul-of-pos-right k scale-pos) (le-of-eq (sym t))))
 
   here : units (h * 2 ^ 52 + n) ≡ n * 2 ^ h
   here = units-at h n A (omega arith)
@@ -92,7 +89,7 @@ module _ (b x h n : ℕ) (t : rootSquared b ≡ x * (2 ^ h * 2 ^ h)) (H : 1 ≤ 
         let v : n * 2 ^ h ≡ 2 ^ 52 * 2 ^ h = ap (λ (z : ℕ). z * 2 ^ h) e in
         let s : units (h * 2 ^ 52 + n - 1) + units (h * 2 ^ 52 + n) < 2 ^ 53 * 2 ^ h = omega (arith, u, here, v) in
         lt-of-lt-of-le (square-lt (units (h * 2 ^ 52 + n - 1) + units (h * 2 ^ 52 + n)) (2 ^ 53 * 2 ^ h) s)
-        (le-trans (le-of-eq (square-scaled (2 ^ 53) (2 ^ h))) (le-trans (mul-le-mul-right (2 ^ h * 2 ^ h) big) (le-of-eq (sym t))))
+        (le-trans (le-of-eq (mul-mul-mul-comm (2 ^ 53) (2 ^ h) (2 ^ 53) (2 ^ h))) (le-trans (mul-le-mul-right (2 ^ h * 2 ^ h) big) (le-of-eq (sym t))))
   ]
 
   high : rootSquared b < middleSquared (h * 2 ^ 52 + n + 1)
@@ -104,7 +101,7 @@ module _ (b x h n : ℕ) (t : rootSquared b ≡ x * (2 ^ h * 2 ^ h)) (H : 1 ≤ 
       let k : units (h * 2 ^ 52 + n + 1 - 1) + units (h * 2 ^ 52 + n + 1) ≡ (2 * n + 1) * 2 ^ h = omega (arith, u, ap units w, here) in
       lt-of-le-of-lt (le-of-eq t)
       (lt-of-lt-of-le (mul-lt-mul-of-pos-right hi scale-pos)
-      (le-of-eq (sym (square-scaled (2 * n + 1) (2 ^ h)) ∙ ap (λ (z : ℕ). z * z) (sym k))))
+      (le-of-eq (sym (mul-mul-mul-comm (2 * n + 1) (2 ^ h) (2 * n + 1) (2 ^ h)) ∙ ap (λ (z : ℕ). z * z) (sym k))))
 
   pub nearest : NearestRoot b (h * 2 ^ 52 + n)
   nearest = record { positive = omega arith; bounded = omega arith; low = low; high = high }

@@ -17,12 +17,7 @@ use Rattle.bits.specs.Runs.{isSoughtDouble, isSought, firstOf, has, anyS
 use Rattle.bits.specs.declared.runs.Sought.{Sought}
 use Rattle.bits.specs.declared.runs.Sought.the-variants.{NotFinite}
 use Rattle.bits.proofs.Doubles.{finite-no-nan}
-
-ltb-next : (a b : ℕ) → ltb (1 + a) (suc b) ≡ ltb a b
-ltb-next a b = elim (decLt a b) [
-  | yes l ↦ lt-ltb (1 + a) (suc b) (omega arith) ∙ sym (lt-ltb a b l)
-  | no g ↦ le-ltb (1 + a) (suc b) (omega arith) ∙ sym (le-ltb a b (omega arith))
-]
+use Rattle.bits.proofs.Line.{same-ltb}
 
 -- The word of a double is sought exactly where the double is; and a run of such words has one exactly where the doubles do.
 pub sought-word : (s : Sought) (x : Float) → T (fits binary64 x) → isSought s (toBits binary64 x) ≡ isSoughtDouble s x
@@ -36,7 +31,9 @@ sought-words s (x ∷ xs) f = go (isSought s (toBits binary64 x)) (sought-word s
     go : (b : Bool) → b ≡ isSoughtDouble s x → ltb (firstOf s (wordsOf xs)) (length (wordsOf xs)) ≡ anySought s xs →
         ltb (pick b 0 (1 + firstOf s (wordsOf xs))) (length (wordsOf (x ∷ xs))) ≡ isSoughtDouble s x || anySought s xs
     go true e r = rw (← e) (lt-ltb 0 (length (wordsOf (x ∷ xs))) (omega arith))
-    go false e r = rw (← e) (ltb-next (firstOf s (wordsOf xs)) (length (wordsOf xs)) ∙ r)
+    go false e r =
+        let n = firstOf s (wordsOf xs) in
+        rw (← e) (same-ltb (1 + n) (length (wordsOf (x ∷ xs))) n (length (wordsOf xs)) (λ l. omega arith) (λ l. omega arith) ∙ r)
 
 -- What `f64::from_bits` asks.
 pub finite-word : (w : ℕ) → isSought NotFinite w ≡ false → T (not (nanBits binary64 w))
@@ -53,19 +50,15 @@ module _ (s : Sought) (ws : List ℕ) {first : ℕ} (e : first ≡ firstOf s ws)
   has-none h = rw (← e, le-ltb first (length ws) h)
 
 -- No word before the first is sought,
+later : (b : Bool) (k n : ℕ) → k < pick b 0 n → (b ≡ false) × (k < n)
+later true k n h = absurd (omega arith)
+later false k n h = (refl, h)
+
 pub before-first : (s : Sought) (ws : List ℕ) (k : ℕ) → k < firstOf s ws → isSought s (getD ws k 0) ≡ false
 unfolding firstOf
 before-first s [] k h = absurd (omega arith)
-before-first s (w ∷ ws) zero h = go (isSought s w) h
-  where
-    go : (b : Bool) → 0 < pick b 0 (1 + firstOf s ws) → b ≡ false
-    go true h = absurd (omega arith)
-    go false h = refl
-before-first s (w ∷ ws) (suc k) h = before-first s ws k (go (isSought s w) h)
-  where
-    go : (b : Bool) → suc k < pick b 0 (1 + firstOf s ws) → k < firstOf s ws
-    go true h = absurd (omega arith)
-    go false h = omega arith
+before-first s (w ∷ ws) zero h = later (isSought s w) 0 (1 + firstOf s ws) h .0
+before-first s (w ∷ ws) (suc k) h = before-first s ws k (omega (arith, later (isSought s w) (suc k) (1 + firstOf s ws) h .1))
 
 -- the first is,
 pub at-first : (s : Sought) (ws : List ℕ) → firstOf s ws < length ws → isSought s (getD ws (firstOf s ws) 0) ≡ true
@@ -105,11 +98,9 @@ module _ (words run : List ℕ) where
   copied-all h = rw (eq-eqb (length run) (length words) h)
 
 -- ---- Two runs have the same words exactly where they are one run.
-module _ (v w : ℕ) (vs ws : List ℕ) where
-  both-words : (b c : Bool) → eqb v w ≡ b → sameWords vs ws ≡ c → b && c ≡ true → (v ≡ w) × (sameWords vs ws ≡ true)
-  both-words true true e f h = (eqb-true v w e, f)
-  both-words true false e f h = absurd (true≢false (sym h))
-  both-words false c e f h = absurd (true≢false (sym h))
+pub both : (a b : Bool) → a && b ≡ true → (a ≡ true) × (b ≡ true)
+both true b e = (refl, e)
+both false b e = absurd (true≢false (sym e))
 
 pub same-words : (one other : List ℕ) → sameWords one other ≡ true → one ≡ other
 unfolding sameWords
@@ -117,8 +108,8 @@ same-words [] [] h = refl
 same-words [] (w ∷ ws) h = absurd (true≢false (sym h))
 same-words (v ∷ vs) [] h = absurd (true≢false (sym h))
 same-words (v ∷ vs) (w ∷ ws) h =
-    let x = both-words v w vs ws (eqb v w) (sameWords vs ws) refl refl h in
-    ap₂ _∷_ (x .0) (same-words vs ws (x .1))
+    let x = both (eqb v w) (sameWords vs ws) h in
+    ap₂ _∷_ (eqb-true v w (x .0)) (same-words vs ws (x .1))
 
 same-itself : (one : List ℕ) → sameWords one one ≡ true
 unfolding sameWords

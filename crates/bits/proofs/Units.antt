@@ -1,14 +1,14 @@
--- `units` grows with the word, so at most one word is nearest to a root.
+-- `units` grows with the word, and so does what is half way to the word before.
 use mathlib.Core.Path.{_≡_, sym, ap, ap₂, _∙_, subst}
 use mathlib.Core.Logic.{⊎-elim}
 use Prim.Native.Nat.{ℕ, suc, _+_, _-_, _*_, _/_, _%_, _^_, _≤_, _<_}
-use native.Mathlib.Nat.{le-refl, le-trans, lt-irrefl, le-of-lt, le-antisymm, pow-suc, mul-le-mul, eq-or-lt-of-le}
+use native.Mathlib.Nat.{le-refl, le-trans, le-of-lt, pow-suc, mul-le-mul, eq-or-lt-of-le}
 use native.Mathlib.Decide.{decLt, le-ind}
 use native.Mathlib.Numerals.{add-one}
 use native.Mathlib.Omega.{arith}
 use lib.Pow.{pow-pos}
 use Rattle.bits.specs.Words.{scaled, units}
-use Rattle.bits.specs.Root.{rootSquared, middleSquared, NearestRoot}
+use Rattle.bits.specs.Root.{middleSquared}
 
 -- A word by its exponent field less one, h, and its 53 digits n, the leading one among them.
 below-top : (h n : ℕ) → 2 ^ 52 ≤ n → n < 2 ^ 53 → units (h * 2 ^ 52 + n) ≡ n * 2 ^ h
@@ -68,13 +68,3 @@ unfolding middleSquared
 middle-grows v w h =
     let a : units (v - 1) + units v ≤ units (w - 1) + units w = omega (arith, grows v w h, grows (v - 1) (w - 1) (omega arith)) in
     mul-le-mul a a
-
--- Two words that are nearest to the root of b are the same.
-pub one-nearest : (b r s : ℕ) → NearestRoot b r → NearestRoot b s → r ≡ s
-one-nearest b r s p q = le-antisymm (at-most r s p q) (at-most s r q p)
-  where
-    at-most : (r s : ℕ) → NearestRoot b r → NearestRoot b s → r ≤ s
-    at-most r s p q = elim (decLt s r) [
-      | yes l ↦ absurd (lt-irrefl (rootSquared b) (omega (arith, p .low, q .high, middle-grows (s + 1) r (omega arith))))
-      | no g ↦ omega arith
-    ]

@@ -64,9 +64,7 @@ eqb-sym v w = by (eqb w v) refl
 
 rows-exchanged : (v w : ℕ) → rowKindOf w v ≡ exchanged (rowKindOf v w)
 unfolding rowKindOf
-rows-exchanged v w =
-    ap (λ (c : Bool). pick (eqb w 0) (pick (eqb v 0) kind.Answered kind.RightRefused) (pick (eqb v 0) kind.LeftRefused (pick c kind.RefusedAlike kind.RefusedUnlike))) (eqb-sym w v)
-    ∙ by (eqb v 0) (eqb w 0) (eqb v w)
+rows-exchanged v w = rw (eqb-sym w v) (by (eqb v 0) (eqb w 0) (eqb v w))
   where
     by : (a b c : Bool) →
         pick b (pick a kind.Answered kind.RightRefused) (pick a kind.LeftRefused (pick c kind.RefusedAlike kind.RefusedUnlike))

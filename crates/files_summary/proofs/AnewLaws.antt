@@ -68,8 +68,7 @@ pub refused-stays : RefusedStays
 refused-stays A each store asked k h = not-made each store asked k h
 
 pub changes-as-asked : ChangesAsAsked
-changes-as-asked A each store asked k e =
-    subst (λ (after : Kept A). keptStates after ≡ statesAsked asked (keptStates k)) (sym (made each store asked k e)) (as-asked each store asked k e)
+changes-as-asked A each store asked k e = rw (made each store asked k e) (as-asked each store asked k e)
 
 -- ---- So an entry is worked out anew, and no other is touched.
 pub works-out-anew : WorksOutAnew

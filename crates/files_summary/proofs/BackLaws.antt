@@ -11,7 +11,7 @@ use Rattle.files_records.proofs.RecordLaws.{length-records, record-put, length-
 use Rattle.files_summary.specs.declared.entries.Roster.{Roster}
 use Rattle.files_summary.specs.declared.entries.Summary.{Summary}
 use Rattle.files_summary.specs.Entries.{stateWidth, centreOf}
-use Rattle.files_summary.specs.Changes.{refuse, oneEach, withdrawRefusal, stateAt, append, withdraw}
+use Rattle.files_summary.specs.Changes.{oneEach, withdrawRefusal, stateAt, append, withdraw}
 use Rattle.files_summary.specs.Kept.{Kept, counting, changeBy, changesBy, refusalBeside, keptStates, keptEntry, GivenBack}
 use Rattle.files_summary.proofs.RefusalLaws.{has-room, appendable, withdraw-by, Withdrawable}
 use Rattle.files_summary.proofs.AnewLaws.{done, made, as-asked}
@@ -27,9 +27,8 @@ without-last (y ∷ ys) x (suc n) e = ap (λ l. y ∷ l) (without-last ys x n (o
 -- One is withdrawn where all tests hold.
 withdraw-passes : (which : ℕ) (run : List ℕ) (roster : Roster) (listed : Bool) → Withdrawable which run roster listed → withdrawRefusal which run roster listed ≡ 0
 withdraw-passes which run roster listed w =
-    sym
-    (ap (λ (b : Bool). refuse b 24 0) (sym (lt-ltb (centreOf (roster .edition) (stateAt (roster .edition) run which)) (roster .centres) (w .has-centre)))
-    ∙ withdraw-by which run roster listed true (w .lent) (lt-ltb which (roster .count) (w .there)))
+    sym (withdraw-by which run roster listed true (w .lent) (lt-ltb which (roster .count) (w .there)))
+    ∙ rw (lt-ltb (centreOf (roster .edition) (stateAt (roster .edition) run which)) (roster .centres) (w .has-centre))
 
 -- ---- The state that was appended may be withdrawn, and what is left is what was there.
 module _ {A : Type 0} (each : ℕ) (store : List A → ℕ → Summary → List A) (keeps : (list : List A) (at : ℕ) (entry : Summary) → length (store list at entry) ≡ length list)
@@ -79,8 +78,4 @@ module _ {A : Type 0} (each : ℕ) (store : List A → ℕ → Summary → List 
 
 pub given-back : GivenBack
 unfolding changesBy
-given-back A each store keeps state k e =
-    subst
-    (λ (then : Kept A). let after = changeBy each store (withdraw (k .roster .count)) then in (after .roster ≡ k .roster) × (keptStates after ≡ keptStates k))
-    (sym (made each store (append state) k e))
-    (left each store keeps state k e)
+given-back A each store keeps state k e = rw (made each store (append state) k e) (left each store keeps state k e)

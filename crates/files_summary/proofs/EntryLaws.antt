@@ -1,14 +1,15 @@
 -- What is gathered from the states in use is the entry of the centre.
-use mathlib.Core.Path.{_≡_, refl, ap, ap₂, _∙_}
+use mathlib.Core.Path.{_≡_, refl, ap, _∙_}
 use mathlib.Core.Bool.{Bool, true, false, not, _&&_}
 use mathlib.Core.List.{List, [], _∷_, map}
 use Prim.Native.Nat.{ℕ, suc, _+_, _-_, _*_, _^_, _<_, _≤_}
+use native.Mathlib.Nat.{add-zero, zero-add}
 use native.Mathlib.Omega.{arith}
 use borrow.Author.Tests.{ltb-false, ne-eqb}
 use lib.Dec.{eqb, ltb}
 use lib.ListN.{length, getD, drop, drop-of-length-le}
 use Rattle.bits.specs.Choice.{pick}
-use Rattle.bits.specs.Line.{isNanWord, wordOn}
+use Rattle.bits.specs.Line.{isNanWord}
 use Rattle.bits.proofs.Line.{below-line}
 use Rattle.files_words.specs.Bytes.{Below}
 use Rattle.files_records.specs.Records.{recordsOf}
@@ -39,15 +40,8 @@ none-later p = gives-way (ltb 0 p) 0 p (λ e. omega (arith, ltb-false 0 p e))
 
 shown-by : (ps : List ℕ) (nans : ℕ) → Below (2 ^ 64) ps → shown (record { states = 0 + length ps; nans = 0 + nans; first = earliest (2 ^ 64 - 1) ps; last = latest 0 ps }) ≡ entryBy ps nans
 unfolding entryBy
-shown-by [] nans h = let n : 0 + nans ≡ nans = omega arith in λ i. record { states = 0; nans = n i; earliest = 0; latest = 0 }
-shown-by (p ∷ ps) nans h =
-    let n : 0 + nans ≡ nans = omega arith in
-    let s : 0 + length (p ∷ ps) ≡ length (p ∷ ps) = omega arith in
-    ap (λ (b : Bool). pick b
-    (record { states = 0; nans = 0 + nans; earliest = 0; latest = 0 })
-    (record { states = 0 + length (p ∷ ps); nans = 0 + nans; earliest = wordOn (earliest (earlier (2 ^ 64 - 1) p) ps); latest = wordOn (latest (later 0 p) ps) }))
-    (ne-eqb (0 + length (p ∷ ps)) 0 (λ e. omega arith))
-    ∙ (λ i. record { states = s i; nans = n i; earliest = wordOn (earliest (none-earlier p (h .0) i) ps); latest = wordOn (latest (none-later p i) ps) })
+shown-by [] nans h = rw (zero-add nans)
+shown-by (p ∷ ps) nans h = rw (zero-add (length (p ∷ ps)), zero-add nans, ne-eqb (length (p ∷ ps)) 0 (λ e. omega arith), none-earlier p (h .0), none-later p)
 
 module _ (edition : Edition) (centre : ℕ) where
   -- ---- All states at once: what they add to a tally.
@@ -58,10 +52,7 @@ module _ (edition : Edition) (centre : ℕ) where
 
   gathered-added : (t : Tally) (ss : List (List ℕ)) → gathered (columnOf edition at.Centre) (columnOf edition at.Epoch) centre t ss ≡ added t ss
   unfolding gathered chosen earliest latest
-  gathered-added t [] =
-      let s : t .states ≡ t .states + 0 = omega arith in
-      let n : t .nans ≡ t .nans + 0 = omega arith in
-      λ i. record { states = s i; nans = n i; first = t .first; last = t .last }
+  gathered-added t [] = rw (add-zero (t .states), add-zero (t .nans))
   gathered-added t (s ∷ ss) = gathered-added (withState t centre (centreOf edition s) (epochOf edition s)) ss ∙ go (eqb (centreOf edition s) centre) (isNanWord (epochOf edition s))
     where
       go : (a b : Bool) →
@@ -73,17 +64,8 @@ module _ (edition : Edition) (centre : ℕ) where
             first = earliest (t .first) with;
             last = latest (t .last) with;
           }
-      go true true =
-          let n : t .nans + 1 + nansOf edition centre ss ≡ t .nans + length (s ∷ chosen (isUndated edition centre) ss) = omega arith in
-          λ i. record { states = t .states + length (momentsOf edition centre ss); nans = n i; first = earliest (t .first) (momentsOf edition centre ss); last = latest (t .last) (momentsOf edition centre ss) }
-      go true false =
-          let n : t .states + 1 + length (momentsOf edition centre ss) ≡ t .states + length (momentOf edition s ∷ momentsOf edition centre ss) = omega arith in
-          λ i. record {
-            states = n i;
-            nans = t .nans + nansOf edition centre ss;
-            first = earliest (earlier (t .first) (momentOf edition s)) (momentsOf edition centre ss);
-            last = latest (later (t .last) (momentOf edition s)) (momentsOf edition centre ss);
-          }
+      go true true = let n : t .nans + 1 + nansOf edition centre ss ≡ t .nans + length (s ∷ chosen (isUndated edition centre) ss) = omega arith in rw n
+      go true false = let n : t .states + 1 + length (momentsOf edition centre ss) ≡ t .states + length (momentOf edition s ∷ momentsOf edition centre ss) = omega arith in rw n
       go false b = refl
 
   pub shown-gathered : (states : List (List ℕ)) → shown (gathered (columnOf edition at.Centre) (columnOf edition at.Epoch) centre noTally states) ≡ centreEntry edition centre states
@@ -114,9 +96,7 @@ module _ (w its epoch centre : ℕ) (run : List ℕ) (count : ℕ) where
 
   pub gather-step : (t : Tally) (k : ℕ) → k < count → its < w → epoch < w → from-state t k ≡ from-state (withState t centre (getD run (k * w + its) 0) (getD run (k * w + epoch) 0)) (suc k)
   unfolding gathered
-  gather-step t k h c e =
-      ap (gathered its epoch centre t) (records-from w run count k h)
-      ∙ ap₂ (λ (a b : ℕ). from-state (withState t centre a b) (suc k)) (word-in w run k its c) (word-in w run k epoch e)
+  gather-step t k h c e = rw (records-from w run count k h, ← word-in w run k its c, ← word-in w run k epoch e)
 
   pub none-left : (t : Tally) (k : ℕ) → count ≤ k → from-state t k ≡ t
   unfolding gathered

@@ -108,8 +108,7 @@ module _ (edition : Edition) (centre : ℕ) where
   state-in : (states : List (List ℕ)) (i : ℕ) → i < length states → OfCentre edition centre (getD states i []) → Among (momentOf edition (getD states i [])) (momentsOf edition centre states)
   unfolding chosen
   state-in [] i l o = absurd (omega arith)
-  state-in (s ∷ ss) zero l o =
-      subst (λ (b : Bool). Among (momentOf edition s) (map (momentOf edition) (pick b (s ∷ chosen (isDated edition centre) ss) (chosen (isDated edition centre) ss)))) (sym (is-dated s o)) (inl refl)
+  state-in (s ∷ ss) zero l o = rw (is-dated s o) (inl refl)
   state-in (s ∷ ss) (suc i) l o = go (isDated edition centre s) (state-in ss i (omega arith) o)
     where
       go : (b : Bool) → Among (momentOf edition (getD ss i [])) (momentsOf edition centre ss)

@@ -1,7 +1,7 @@
 -- A right list stays right: a state that is appended or withdrawn changes the entry of its own centre alone.
-use mathlib.Core.Path.{_≡_, refl, sym, ap, ap₂, subst, _∙_}
-use mathlib.Core.Bool.{Bool, true, false, not, _&&_}
-use mathlib.Core.List.{List, [], _∷_, _++_, map}
+use mathlib.Core.Path.{_≡_, refl, sym, ap, subst, _∙_}
+use mathlib.Core.Bool.{Bool, true, false}
+use mathlib.Core.List.{List, [], _∷_, _++_}
 use Prim.Native.Nat.{ℕ, zero, suc, _<_}
 use native.Mathlib.Decide.{decLt}
 use native.Mathlib.Omega.{arith}
@@ -10,12 +10,11 @@ use lib.Dec.{eqb}
 use lib.ListN.{length, getD, set, length-append, length-set, List·getD-append}
 use lib.Seq.{ext-getD, getD-append-seam, getD-set-same, getD-set-other}
 use Rattle.bits.specs.Choice.{pick}
-use Rattle.bits.specs.Line.{isNanWord}
 use Rattle.files_records.specs.Records.{without}
 use Rattle.files_records.proofs.RecordLaws.{record-at}
 use Rattle.files_formats.specs.declared.elements.Edition.{Edition}
 use Rattle.files_summary.specs.declared.entries.Summary.{Summary}
-use Rattle.files_summary.specs.Entries.{stateWidth, centreOf, epochOf, momentOf, isDated, isUndated, chosen, entryBy, centreEntry, noEntry}
+use Rattle.files_summary.specs.Entries.{stateWidth, centreOf, isDated, isUndated, chosen, centreEntry, noEntry}
 use Rattle.files_summary.specs.Changes.{oneEach, Asked, append, withdraw, entriesOf}
 use Rattle.files_summary.specs.Kept.{Kept, changeBy, changesBy, refusalBeside, centreBeside, keptStates, keptEntry, statesAsked, Right, RightStays}
 use Rattle.files_summary.proofs.RefusalLaws.{withdrawable, granted}
@@ -40,14 +39,12 @@ module _ (edition : Edition) (c : ℕ) where
   Other s = (isDated edition c s ≡ false) × (isUndated edition c s ≡ false)
 
   others : (s : List ℕ) → (centreOf edition s ≡ c → ⊥) → Other s
-  others s h =
-      let no = ne-eqb (centreOf edition s) c h in
-      (ap (λ (b : Bool). b && not (isNanWord (epochOf edition s))) no, ap (λ (b : Bool). b && isNanWord (epochOf edition s)) no)
+  others s h = (rw (ne-eqb (centreOf edition s) c h), rw (ne-eqb (centreOf edition s) c h))
 
   by-chosen : (xs ys : List (List ℕ)) → chosen (isDated edition c) xs ≡ chosen (isDated edition c) ys → chosen (isUndated edition c) xs ≡ chosen (isUndated edition c) ys
       → centreEntry edition c xs ≡ centreEntry edition c ys
   unfolding centreEntry
-  by-chosen xs ys p q = ap₂ (λ (a b : List (List ℕ)). entryBy (map (momentOf edition) a) (length b)) p q
+  by-chosen xs ys p q = rw (p, q)
 
   entry-append : (xs : List (List ℕ)) (s : List ℕ) → Other s → centreEntry edition c (xs ++ (s ∷ [])) ≡ centreEntry edition c xs
   entry-append xs s o = by-chosen (xs ++ (s ∷ [])) xs (chosen-append (isDated edition c) xs s (o .0)) (chosen-append (isUndated edition c) xs s (o .1))
@@ -85,17 +82,12 @@ module _ (edition : Edition) where
       at : (i : ℕ) → i < centres → (b : Bool) → eqb i c ≡ b
           → getD (set (entriesOf edition before centres) c (centreEntry edition c after)) i noEntry ≡ getD (entriesOf edition after centres) i noEntry
       at i k true e =
-          let same = eqb-true i c e in
-          ap (λ (j : ℕ). getD (set (entriesOf edition before centres) c (centreEntry edition c after)) j noEntry) same
-          ∙ getD-set-same (entriesOf edition before centres) c (centreEntry edition c after) noEntry (omega (arith, length-entries before centres))
-          ∙ ap (λ (j : ℕ). centreEntry edition j after) (sym same)
-          ∙ sym (entry-at after centres i k)
+          let there = getD-set-same (entriesOf edition before centres) c (centreEntry edition c after) noEntry (omega (arith, length-entries before centres)) in
+          rw (eqb-true i c e, there, entry-at after centres c h)
       at i k false e =
           let other = eqb-false i c e in
-          getD-set-other (entriesOf edition before centres) c i (centreEntry edition c after) noEntry other
-          ∙ entry-at before centres i k
-          ∙ sym (others i (λ z. other (sym z)))
-          ∙ sym (entry-at after centres i k)
+          let kept = getD-set-other (entriesOf edition before centres) c i (centreEntry edition c after) noEntry other in
+          rw (kept, entry-at before centres i k, entry-at after centres i k) (sym (others i (λ z. other (sym z))))
 
 -- ---- A change touches the entry of its own centre alone.
 other-centres : (asked : Asked) (k : Kept Summary) → refusalBeside 1 asked k ≡ 0 → (d : ℕ) → (centreBeside asked k ≡ d → ⊥) → centreEntry (k .roster .edition) d (statesAsked asked (keptStates k)) ≡ keptEntry d k

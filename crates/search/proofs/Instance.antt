@@ -7,14 +7,14 @@ use mathlib.Core.Logic.{⊎-elim, _↔_}
 use native.Mathlib.Omega.{arith}
 use lib.ListN.{length}
 use lib.Ieee.{Float, neg, eq}
-use borrow.Author.Tests.{le-leb, ne-eqb}
 use Rattle.bits.specs.Choice.{pick}
 use Rattle.bits.specs.Arithmetic.{n0}
-use Rattle.bits.specs.Words.{infinity, placeOf}
+use Rattle.bits.specs.Words.{placeOf}
 use Rattle.series.specs.declared.figures.Anomaly.{Anomaly}
 use Rattle.series.specs.declared.figures.Seconds.{Seconds}
 use Rattle.search_points.specs.declared.figures.Initial.{Initial}
 use Rattle.search_points.specs.Trial.{anomalyAt, trialAt}
+use Rattle.search_points.proofs.SortLaws.{sorts-mean}
 use Rattle.search_rule.specs.Rule.{Point, Trials, Proposal, Ending, between, exact, unreadable, allShort, endingOf, nextOf, counted}
 use Rattle.search_rule.specs.declared.pair.Next.{Next}
 use Rattle.search_rule.specs.declared.pair.Next.the-variants.{Between, Exact, Unreadable, AllShort}
@@ -32,12 +32,8 @@ use Rattle.search.specs.SearchPromise.{usedIn, triedBy, triedAt, Says, S
 
 -- "Place 0 has R = −τ here"; "A place at or above 2047·2^52 is unreadable."
 pub sorts-at : (i : Initial) (tau : Seconds) → Sorts (trialAt i tau) (neg (tau .0))
-unfolding trialAt
 sorts-at i tau =
-    record {
-      zero-short = refl;
-      top-unreadable = λ p l. let e : p ≡ 0 → ⊥ = λ z. omega arith in simp (ne-eqb p 0 e, le-leb infinity p (omega arith));
-    }
+    record { zero-short = sorts-mean i tau 0 .is-short-at-zero refl; top-unreadable = λ p l. sorts-mean i tau p .is-unreadable-by-psi (omega arith) }
 
 -- ---- What is found at an ending with n points.
 module _ (tau : Seconds) (n : ℕ) where

@@ -12,7 +12,7 @@ use Rattle.search_points.specs.declared.figures.Trial.{Trial}
 use Rattle.search_rule.specs.declared.pair.End.{End}
 use Rattle.search_rule.specs.Rule.{Trials, endAt}
 use Rattle.search_rule.specs.Nearer.{isSmaller, nearerEnd}
-use Rattle.search_rule.specs.RulePromise.{IsAnomaly, Neighbours}
+use Rattle.search_rule.specs.RulePromise.{IsShort, IsAnomaly, Neighbours}
 use Rattle.search_rule.proofs.Nearest.{chosen-so}
 use Rattle.search_check.specs.Passing.{picks, shortBeside, pastBeside, shortPasses, pastPasses, passesAs, passes, PassesExactly, SameTwo, TwoPoints}
 
@@ -32,12 +32,6 @@ one-of short past = by (isSmaller (past .error) (short .error)) refl
     by true e = inr (chosen-so short past .past-nearer e)
     by false e = inl (chosen-so short past .short-else e)
 
-abbrev IsShortSort : Sort → Type 0
-IsShortSort (Short r) = Unit {0}
-IsShortSort (Past r) = ⊥
-IsShortSort Exact = ⊥
-IsShortSort Unreadable = ⊥
-
 module _ (ev : Trials) (p : ℕ) where
   -- ---- What passes is an anomaly's place.
   beside-short : (r : Float) (s : Sort) → ev p .sort ≡ Short r → ev (p + 1) .sort ≡ s → shortBeside (endAt p r) s ≡ true → IsAnomaly ev p
@@ -52,7 +46,7 @@ module _ (ev : Trials) (p : ℕ) where
   not-zero r q e f = go p refl
     where
       go : (n : ℕ) → p ≡ n → p ≡ (p - 1) + 1
-      go zero z = let same : p - 1 ≡ p = omega arith in absurd (subst IsShortSort (sym f ∙ ap (λ (x : ℕ). ev x .sort) same ∙ e) tt)
+      go zero z = let same : p - 1 ≡ p = omega arith in absurd (subst IsShort (sym f ∙ ap (λ (x : ℕ). ev x .sort) same ∙ e) tt)
       go (suc n) z = omega arith
 
   beside-past : (r : Float) (s : Sort) → ev p .sort ≡ Past r → ev (p - 1) .sort ≡ s → pastBeside (endAt p r) s ≡ true → IsAnomaly ev p

@@ -1,25 +1,17 @@
 -- Doubles whose magnitude is no more than a power of two, and what the four operations make of them. Rounding keeps the order, and the power is a double, so
 -- none of the results is infinite or a NaN.
 use Prim.Native.Nat.{ℕ, _+_, _-_, _*_, _^_, _≤_, _<_}
-use mathlib.Core.Path.{_≡_, refl, sym, ap, subst, _∙_}
-use mathlib.Core.Bool.{Bool, true, false, cond, _&&_, _||_, Bool·beq, true≢false}
+use mathlib.Core.Path.{_≡_, refl, sym, ap, subst}
+use mathlib.Core.Bool.{Bool, true, false, cond, _&&_, Bool·beq}
 use native.Mathlib.Omega.{arith}
-use native.Mathlib.Nat.{le-trans, mul-one, mul-pos, mul-le-mul, mul-le-mul-left, mul-le-mul-right, le-of-mul-le-mul-right}
+use native.Mathlib.Nat.{le-trans, mul-pos, mul-le-mul, mul-le-mul-left, mul-le-mul-right}
 use borrow.Author.Tests.{eq-eqb, ne-eqb}
-use lib.Dec.{T, ltb, eqb, ltb→lt, eqb→eq, lit<}
+use lib.Dec.{ltb, eqb}
 use lib.Pow.{pow-add, pow-mono, pow-pos}
-use lib.Ieee.{Float, nan, inf, fin, binary64, up, down, unlike, round, sum, add, sub, neg, mul, div, le, eq, ne}
+use lib.Ieee.{Float, nan, inf, fin, binary64, up, down, unlike, round, sum, add, sub, neg, mul, div, eq, ne}
 use lib.Ieee.Fits.{down-pos}
-use lib.Ieee.Exact.{HasValue}
-use lib.Ieee.Order.{round-mono}
-use Rattle.bits.specs.Arithmetic.{_⊕_, _⊖_, _⊗_, _⊘_, isFinite, magnitude}
-use Rattle.series.proofs.Reduction.{magnitude-round, power}
-
--- Finite, and at most 2 ^ j in magnitude.
-abbrev pub Within : ℕ → Float → Type 0
-Within j nan = ⊥
-Within j (inf s) = ⊥
-Within j (fin s m e) = m * up e ≤ 2 ^ j * down e
+use Rattle.bits.specs.Arithmetic.{_⊕_, _⊖_, _⊗_, _⊘_, isFinite}
+use Rattle.series.proofs.Reduction.{Within, rounded}
 
 -- Finite, and at least 2 ^ k in magnitude.
 abbrev pub AtLeast : ℕ → Float → Type 0
@@ -49,35 +41,6 @@ unfolding neg
 within-neg j nan w = w
 within-neg j (inf s) w = w
 within-neg j (fin s m e) w = w
-
--- ---- Rounding.
-le-or-eq : (a b : ℕ) (c : Bool) → T (ltb a b || (eqb a b && c)) → a ≤ b
-le-or-eq a b c t = go (ltb a b) (eqb a b) (ltb→lt a b) (eqb→eq a b) t
-  where
-    go : (x y : Bool) → (T x → a < b) → (T y → a ≡ b) → T (x || (y && c)) → a ≤ b
-    go true y f g t = omega (arith, f tt)
-    go false true f g t = omega (arith, g tt)
-    go false false f g t = absurd t
-
-by-power : (j : ℕ) (x z : Float) → T (le (magnitude x) z) → HasValue z false (2 ^ j) 1 → Within j x
-unfolding le
-by-power j nan z t v = absurd t
-by-power j (inf s) nan t v = absurd v
-by-power j (inf s) (inf u) t v = absurd v
-by-power j (inf s) (fin u n d) t v = absurd t
-by-power j (fin s m e) nan t v = absurd v
-by-power j (fin s m e) (inf u) t v = absurd v
-by-power j (fin s m e) (fin true n d) t v = absurd (true≢false (v .0))
-by-power j (fin s m e) (fin false n d) t v =
-    let h : m * up e * down d ≤ n * up d * down e = le-or-eq _ _ _ t in
-    let w : n * up d * down e ≡ 2 ^ j * down d * down e = ap (λ (k : ℕ). k * down e) (sym (mul-one (n * up d)) ∙ v .1) in
-    le-of-mul-le-mul-right (omega arith) (down-pos d)
-
-rounded : (j : ℕ) (s : Bool) (a c : ℕ) → j < 1024 → 0 < c → a ≤ 2 ^ j * c → Within j (round binary64 s a c)
-rounded j s a c J C h =
-    by-power j (round binary64 s a c) (round binary64 false (2 ^ j) 1)
-    (subst (λ (x : Float). T (le x (round binary64 false (2 ^ j) 1))) (sym (magnitude-round binary64 s a c)) (round-mono binary64 a c (2 ^ j) 1 C (lit< tt) (omega arith)))
-    (power j J)
 
 -- ---- The operations.
 pub product : (j k : ℕ) (x y : Float) → j + k < 1024 → Within j x → Within k y → Within (j + k) (x ⊗ y)

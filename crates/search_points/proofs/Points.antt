@@ -1,14 +1,17 @@
 -- What the code's proofs cite of one trial point: words with a sign, the four sorts by another order of tests, and places that need no test of their own.
-use Prim.Native.Nat.{ℕ, zero, suc, _+_, _*_, _/_, _%_, _^_, _≤_, _<_}
+use Prim.Native.Nat.{ℕ, zero, suc, _+_, _/_, _%_, _^_, _≤_, _<_}
 use mathlib.Core.Path.{_≡_, refl, sym, ap, _∙_}
-use mathlib.Core.Bool.{Bool, true, false, not, cond, true≢false}
+use mathlib.Core.Bool.{Bool, true, false, not, cond, _&&_, true≢false}
+use mathlib.Core.Logic.{_⊎_, inl, inr, ⊎-elim}
 use native.Mathlib.Omega.{arith}
-use borrow.Author.Tests.{ltb-true, ltb-false, le-leb, lt-leb, eq-eqb, ne-eqb}
+use borrow.Author.Tests.{le-leb, lt-leb, ne-eqb}
 use lib.Dec.{leb, eqb}
-use lib.Ieee.{Float, nan, inf, fin, binary64, up, down, below, level, neg, mul, lt, eq, ne, odd, ofFields, ofBits}
+use lib.Ieee.{Float, isNan, nan, inf, fin, binary64, neg, mul, lt, eq, ne, odd, ofFields, ofBits}
 use Rattle.bits.specs.Choice.{pick}
 use Rattle.bits.specs.Arithmetic.{_⊗_, n0, isFinite}
 use Rattle.bits.specs.Words.{fieldOf, infinity}
+use Rattle.bits.proofs.Line.{eq-neither}
+use Rattle.bits.proofs.Order.{one-way, not-itself}
 use Rattle.series.specs.Series.{firstL, coefficientsOf, sumsOf}
 use Rattle.series.specs.declared.figures.Anomaly.{Anomaly}
 use Rattle.series.specs.declared.figures.FirstSums.{FirstSums}
@@ -60,49 +63,33 @@ signed-field true p h = omega arith
 signed-field false p h = omega arith
 
 -- ---- A double above or below zero is neither a NaN nor a zero; one that is neither above nor below nor equal is a NaN.
-module _ (a z : ℕ) (e : z ≡ 0) where
-  fin-above : (s : Bool) → below false z s a ≡ true → level s a false z ≡ false
-  fin-above false h = rw (ne-eqb a z (λ q. omega (arith, ltb-true z a h)))
-  fin-above true h = absurd (true≢false (sym h))
+nan-or-not : (x : Float) → (isNan x ≡ false) ⊎ ((lt n0 x ≡ false) × (lt x n0 ≡ false) × (eq x n0 ≡ false) × (ne x x ≡ true))
+unfolding ofBits lt eq ne isNan
+nan-or-not nan = inr (refl, refl, refl, refl)
+nan-or-not (inf s) = inl refl
+nan-or-not (fin s m e) = inl refl
 
-  fin-below : (s : Bool) → below s a false z ≡ true → level s a false z ≡ false
-  fin-below false h = absurd (omega (arith, ltb-true a z h))
-  fin-below true h = rw (ne-eqb a z (λ q. omega (arith, ltb-true 0 (a + z) h)))
+module _ (x : Float) where
+  -- A number is equal to itself, and to zero where it is neither above nor below.
+  same : isNan x ≡ false → ne x x ≡ false
+  unfolding ne
+  same n = rw (eq-neither x x n n, not-itself x)
 
-  fin-neither : (s : Bool) → below false z s a ≡ false → below s a false z ≡ false → level s a false z ≡ true
-  fin-neither false g h = rw (eq-eqb a z (omega (arith, ltb-false z a g)))
-  fin-neither true g h = let q : a ≡ 0 = omega (arith, ltb-false 0 (a + z) h) in simp (eq-eqb a z (omega arith), eq-eqb a 0 q)
+  by-zero : isNan x ≡ false → eq x n0 ≡ not (lt x n0) && not (lt n0 x)
+  unfolding ofBits isNan
+  by-zero n = eq-neither x n0 n refl
 
-fin-same : (s : Bool) (a : ℕ) → level s a s a ≡ true
-fin-same true a = rw (eq-eqb a a refl)
-fin-same false a = rw (eq-eqb a a refl)
+  above : lt n0 x ≡ true → (ne x x ≡ false) × (eq x n0 ≡ false)
+  above h = ⊎-elim (λ n. (same n, by-zero n ∙ rw (one-way n0 x h, h))) (λ z. absurd (true≢false (sym h ∙ z .0))) (nan-or-not x)
 
-above : (x : Float) → lt n0 x ≡ true → (ne x x ≡ false) × (eq x n0 ≡ false)
-unfolding ofBits lt eq ne
-above nan h = absurd (true≢false (sym h))
-above (inf true) h = (refl, refl)
-above (inf false) h = (refl, refl)
-above (fin s m x) h = (ap not (fin-same s (m * up x * down x)), fin-above (m * up x * 1) (0 * 1 * down x) (omega arith) s h)
+  under : lt x n0 ≡ true → (ne x x ≡ false) × (eq x n0 ≡ false)
+  under h = ⊎-elim (λ n. (same n, by-zero n ∙ rw h)) (λ z. absurd (true≢false (sym h ∙ z .1))) (nan-or-not x)
 
-under : (x : Float) → lt x n0 ≡ true → (ne x x ≡ false) × (eq x n0 ≡ false)
-unfolding ofBits lt eq ne
-under nan h = absurd (true≢false (sym h))
-under (inf true) h = (refl, refl)
-under (inf false) h = (refl, refl)
-under (fin s m x) h = (ap not (fin-same s (m * up x * down x)), fin-below (m * up x * 1) (0 * 1 * down x) (omega arith) s h)
+  pub zero-same : eq x n0 ≡ true → ne x x ≡ false
+  zero-same e = ⊎-elim same (λ z. absurd (true≢false (sym e ∙ z .2))) (nan-or-not x)
 
-pub zero-same : (x : Float) → eq x n0 ≡ true → ne x x ≡ false
-unfolding ofBits eq ne
-zero-same nan h = absurd (true≢false (sym h))
-zero-same (inf s) h = absurd (true≢false (sym h))
-zero-same (fin s m x) h = ap not (fin-same s (m * up x * down x))
-
-neither : (x : Float) → lt n0 x ≡ false → lt x n0 ≡ false → eq x n0 ≡ false → ne x x ≡ true
-unfolding ofBits lt eq ne
-neither nan g h e = refl
-neither (inf true) g h e = absurd (true≢false h)
-neither (inf false) g h e = absurd (true≢false g)
-neither (fin s m x) g h e = absurd (true≢false (sym (fin-neither (m * up x * 1) (0 * 1 * down x) (omega arith) s g h) ∙ e))
+  neither : lt n0 x ≡ false → lt x n0 ≡ false → eq x n0 ≡ false → ne x x ≡ true
+  neither g h e = ⊎-elim (λ n. absurd (true≢false (sym (by-zero n ∙ rw (g, h)) ∙ e))) (λ z. z .3) (nan-or-not x)
 
 -- So the sort may be told by the two signs first.
 module _ (tau : Seconds) (x : Float) where

@@ -1,15 +1,15 @@
 -- Where |α| is at most 1 and no other figure is beyond 2 ^ 1018, every place up to that of 1 is readable: |L| is at most 1, so that it is not divided, and no
 -- sum or product on the way to R is infinite.
-use Prim.Native.Nat.{ℕ, _+_, _*_, _^_, _≤_, _<_}
+use Prim.Native.Nat.{ℕ, _+_, _^_, _≤_, _<_}
 use mathlib.Core.Path.{_≡_, refl, sym, subst, _∙_}
 use mathlib.Core.Bool.{Bool, true, false, true≢false}
 use mathlib.Core.List.{List, [], _∷_}
 use mathlib.Core.Logic.{⊎-elim}
 use native.Mathlib.Omega.{arith}
 use native.Mathlib.Nat.{le-of-mul-le-mul-right, mul-le-mul-right}
-use borrow.Author.Tests.{le-ltb, lt-leb}
+use borrow.Author.Tests.{lt-leb}
 use lib.Pow.{pow-pos}
-use lib.Ieee.{Float, nan, inf, fin, binary64, up, down, neg, div, lt, ofBits}
+use lib.Ieee.{Float, nan, inf, fin, binary64, down, neg, div, lt, ofBits}
 use lib.Ieee.Exact.{HasValue}
 use Rattle.bits.specs.Choice.{pick}
 use Rattle.bits.specs.Arithmetic.{_⊕_, _⊗_, _⊘_, half, n0, n1}
@@ -17,7 +17,7 @@ use Rattle.bits.specs.Words.{infinity, units}
 use Rattle.bits.proofs.Doubles.{value}
 use Rattle.bits.proofs.Units.{grows}
 use Rattle.series.specs.Constants.{sixth, n24, n120, divisors4, divisors5}
-use Rattle.series.specs.Series.{firstL, beyondOne, reducedFrom, reduced, nested, c4Of, c5Of, atReduced, coefficientsFrom, coefficientsOf}
+use Rattle.series.specs.Series.{firstL, reducedFrom, reduced, nested, c4Of, c5Of, atReduced, coefficientsFrom, coefficientsOf}
 use Rattle.series.specs.declared.figures.Anomaly.{Anomaly}
 use Rattle.series.specs.declared.figures.Coefficients.{Coefficients}
 use Rattle.series.specs.declared.figures.Seconds.{Seconds}
@@ -26,7 +26,8 @@ use Rattle.search_points.specs.declared.figures.Sort.the-variants.{Unrea
 use Rattle.search_points.specs.Trial.{anomalyAt, trialAt}
 use Rattle.search_points.specs.Meaning.{errorAt}
 use Rattle.search_points.proofs.SortLaws.{sorts-mean}
-use Rattle.search_points.proofs.Bounds.{Within, AtLeast, wider, within-finite, within-no-nan, within-neg, product, total, difference, quotient}
+use Rattle.series.proofs.Reduction.{Within, ends}
+use Rattle.search_points.proofs.Bounds.{AtLeast, wider, within-finite, within-no-nan, within-neg, product, total, difference, quotient}
 
 -- ---- The constants of the series.
 abbrev Divisors : List Float → Type 0
@@ -63,15 +64,6 @@ by-fives = (omega arith, (omega arith, (omega arith, (omega arith, (omega arith,
 
 -- ---- The coefficients of an L whose magnitude is at most 1.
 module _ (l : Float) (h : Within 0 l) where
-  not-beyond : beyondOne l ≡ false
-  unfolding beyondOne lt ofBits
-  not-beyond = go l h
-    where
-      go : (x : Float) → Within 0 x → beyondOne x ≡ false
-      go nan w = absurd w
-      go (inf s) w = absurd w
-      go (fin s m e) w = le-ltb (1 * down e) (m * up e * 1) (omega arith)
-
   nested-within : (ds : List Float) → Divisors ds → Within 1 (nested l ds)
   unfolding nested
   nested-within [] t = wider 0 1 n1 (omega arith) one
@@ -102,7 +94,7 @@ module _ (l : Float) (h : Within 0 l) where
 
   small : Small (coefficientsFrom l (reduced l))
   unfolding reducedFrom
-  small = subst (λ (again : Bool). Small (coefficientsFrom l (reducedFrom 512 again l 0))) (sym not-beyond) at-reduced
+  small = subst (λ (again : Bool). Small (coefficientsFrom l (reducedFrom 512 again l 0))) (sym (ends l h)) at-reduced
 
 -- ---- The time error.
 pub record Moderate (b : ℕ) (i : Initial) (tau : Seconds) : Type 0 where

@@ -1,9 +1,10 @@
 -- The first outward points are short where a test of each says so, one by one: a test that the checker computes.
 use Prim.Native.Nat.{ℕ, zero, suc}
-use mathlib.Core.Path.{_≡_, refl, sym, subst}
+use mathlib.Core.Path.{_≡_, sym, subst}
 use mathlib.Core.Bool.{Bool, true, false, _&&_, true≢false}
 use native.Mathlib.Omega.{arith}
 use native.Mathlib.Decide.{decLt}
+use Rattle.bits.proofs.RunLaws.{both}
 use Rattle.search_points.specs.declared.figures.Sort.{Sort}
 use Rattle.search_points.specs.declared.figures.Sort.the-variants.{Short, Past, Exact, Unreadable}
 use Rattle.search_rule.specs.Rule.{Trials}
@@ -24,10 +25,6 @@ is-short Unreadable e = true≢false (sym e)
 unfoldable pub areShort : Trials → (first n : ℕ) → Bool
 areShort ev first zero = true
 areShort ev first (suc n) = areShort ev first n && isShort (ev (outPoint first n) .sort)
-
-both : (x y : Bool) → x && y ≡ true → (x ≡ true) × (y ≡ true)
-both true y e = (refl, e)
-both false y e = absurd (true≢false (sym e))
 
 pub each : (ev : Trials) (first n : ℕ) → areShort ev first n ≡ true → ShortBefore ev first n
 unfolding areShort

@@ -2,7 +2,7 @@
 -- first outward point is short and to 63 where it isn't, and the 63 of document 01 are no rule of their own.
 use Prim.Native.Nat.{ℕ, zero, suc, _+_, _-_, _*_, _^_, _≤_, _<_}
 use mathlib.Core.Path.{_≡_, refl, ap, subst}
-use mathlib.Core.Bool.{Bool, true, false, _&&_}
+use mathlib.Core.Bool.{true}
 use mathlib.Core.List.{List, [], _∷_, _++_, append-assoc, append-nil}
 use mathlib.Core.Logic.{_⊎_, inl, inr, ⊎-elim}
 use native.Mathlib.Nat.{pow-suc}
@@ -12,6 +12,7 @@ use lib.Pow.{pow-pos}
 use lib.Ieee.{Float}
 use borrow.Author.Tests.{ltb-true, ltb-false, le-ltb}
 use Rattle.bits.specs.Choice.{pick}
+use Rattle.bits.proofs.RunLaws.{both}
 use Rattle.search_points.specs.declared.figures.Sort.{Sort}
 use Rattle.search_points.specs.declared.figures.Sort.the-variants.{Short, Past, Exact, Unreadable}
 use Rattle.search_rule.specs.declared.pair.End.{End}
@@ -30,10 +31,6 @@ NoWider K g unreadable = K unreadable
 NoWider K g allShort = K allShort
 
 -- ---- Choices, with what their tests say.
-both : (a b : Bool) → (a && b) ≡ true → (a ≡ true) × (b ≡ true)
-both true b e = (refl, e)
-both false b e = (e, cc)
-
 pub inside-is : (s : Pair) (p : ℕ) → isInside s p ≡ true → (s .short .place < p) × (p < s .past .place)
 inside-is s p e =
     let t = both (ltb (s .short .place) p) (ltb p (s .past .place)) e in
@@ -65,12 +62,8 @@ module _ (K : Ending → Type 0) where
     unfolding endingOf halving
     halving-no-wider g s g1 k w =
         pick-holds (λ (h : History). NoWider K g (endingOf h)) (isWide s)
-        (λ e.
-        let o = ltb-true _ (gap s) e in
-        moved-no-wider g s (halfway s) k (omega arith) (omega arith) (omega arith) (omega arith))
-        (λ e.
-        let o = ltb-false _ (gap s) e in
-        (k, omega arith))
+        (λ e. let o = ltb-true _ (gap s) e in moved-no-wider g s (halfway s) k (omega arith) (omega arith) (omega arith) (omega arith))
+        (λ e. let o = ltb-false _ (gap s) e in (k, omega arith))
 
     module _ (pr : Proposal) where
       pub round-no-wider : (g k : ℕ) (tried : List Point) (s : Pair) → 1 ≤ g → K (between s) → gap s ≤ 2 * g → NoWider K g (endingOf (round ev pr k tried s))
@@ -96,9 +89,7 @@ module _ (K : Ending → Type 0) where
           onward-no-wider (2 ^ left + w) (1 + w) tried (round ev pr n tried s) (inward ev pr left (n + 1))
           (round-no-wider (2 ^ left + w) n tried s (omega (arith, pow-pos left)) k (omega (arith, pow-suc 2 left)))
           (λ t s' k' w'. inward-no-wider left (n + 1) t s' w k' w'))
-          (λ e.
-          let o = ltb-false _ (gap s) e in
-          (k, omega arith))
+          (λ e. let o = ltb-false _ (gap s) e in (k, omega arith))
 
 -- ---- So many rounds are enough.
 

@@ -18,22 +18,19 @@ use Rattle.search_rule.specs.RulePromise.{Sorts, IsShort, outPoint, Find
 use Rattle.search_rule.proofs.Reach.{finds}
 use Rattle.search_rule.proofs.Nearest.{chosen-so}
 
-pub toySort : ℕ → Sort
+abbrev pub toySort : ℕ → Sort
 toySort p = pick (ltb p 8) (Short n2) (pick (ltb p (2 ^ 63)) (Past n1) Unreadable)
 
 abbrev pub toy : Trials
 toy p = unevaluated (toySort p)
 
 short-at : (p : ℕ) → p < 8 → toySort p ≡ Short n2
-unfolding toySort
 short-at p h = rw (lt-ltb p 8 h)
 
 past-at : (p : ℕ) → 8 ≤ p → p < 2 ^ 63 → toySort p ≡ Past n1
-unfolding toySort
 past-at p h l = rw (le-ltb p 8 h, lt-ltb p (2 ^ 63) l)
 
 top-at : (p : ℕ) → 2 ^ 63 ≤ p → toySort p ≡ Unreadable
-unfolding toySort
 top-at p h = let e : 8 ≤ p = omega arith in rw (le-ltb p 8 e, le-ltb p (2 ^ 63) h)
 
 -- And what a sort says of its place.
@@ -44,7 +41,6 @@ Says p Exact = ⊥
 Says p Unreadable = 2 ^ 63 ≤ p
 
 says : (p : ℕ) {v : Sort} → toySort p ≡ v → Says p v
-unfolding toySort
 says p e = subst (Says p) e (go (ltb p 8) (ltb p (2 ^ 63)) refl refl)
   where
     go : (a b : Bool) → ltb p 8 ≡ a → ltb p (2 ^ 63) ≡ b → Says p (pick a (Short n2) (pick b (Past n1) Unreadable))

@@ -3,7 +3,7 @@
 use mathlib.Core.Path.{_≡_, refl, sym, _∙_, ap, subst}
 use mathlib.Core.Bool.{Bool, true, false, cond, _&&_, _||_, true≢false}
 use Prim.Native.Nat.{ℕ, zero, suc, _+_, _*_, _%_, _^_, _≤_, _<_, zero-le}
-use native.Mathlib.Nat.{le-trans, le-of-eq, le-of-lt, mul-assoc, mul-right-comm, le-of-mul-le-mul-right, mul-one, one-mul, mul-pos, zero-mul}
+use native.Mathlib.Nat.{le-trans, le-of-eq, le-of-lt, le-of-mul-le-mul-right, mul-one, one-mul, mul-pos, zero-mul}
 use native.Mathlib.Omega.{arith}
 use lib.Dec.{T, ltb, leb, eqb, ltb→lt, eqb→eq, lit<}
 use lib.Pow.{pow-add, pow-lt}
@@ -25,7 +25,7 @@ stays (suc k) false l m e = refl
 stays (suc k) true l m e = absurd (let z : _≡_ {A = ℕ} 0 1 = cc in omega arith)
 
 -- ---- a bound on |L|: finite, and at most 2 ^ j
-abbrev Within : ℕ → Float → Type 0
+abbrev pub Within : ℕ → Float → Type 0
 Within j nan = ⊥
 Within j (inf s) = ⊥
 Within j (fin s m e) = m * up e ≤ 2 ^ j * down e
@@ -50,8 +50,8 @@ below j (fin s m e) (inf u) t v = absurd v
 below j (fin s m e) (fin true n d) t v = absurd (true≢false (v .0))
 below j (fin s m e) (fin false n d) t v =
     let h : m * up e * down d ≤ n * up d * down e = or-le _ _ _ t in
-    let w : n * up d ≡ 2 ^ j * down d = sym (mul-one (n * up d)) ∙ v .1 in
-    le-of-mul-le-mul-right (le-trans h (le-of-eq (ap (λ (k : ℕ). k * down e) w ∙ mul-right-comm (2 ^ j) (down d) (down e)))) (down-pos d)
+    let w : n * up d * down e ≡ 2 ^ j * down d * down e = ap (λ (k : ℕ). k * down e) (sym (mul-one (n * up d)) ∙ v .1) in
+    le-of-mul-le-mul-right (omega arith) (down-pos d)
 
 -- ---- rounding and the sign
 magnitude-odd : (d : ℕ) (s : Bool) (q k l : ℕ) → magnitude (odd d s q k l) ≡ odd d false q k l
@@ -67,16 +67,23 @@ magnitude-units : (f : Format) (s : Bool) (q k : ℕ) → magnitude (units f s q
 unfolding units
 magnitude-units f s q k = magnitude-cond (ltb (q * 2 ^ k) (2 ^ (low f + suc (emax f)))) s (suc (prec f)) q k (low f)
 
-pub magnitude-round : (f : Format) (s : Bool) (a b : ℕ) → magnitude (round f s a b) ≡ round f false a b
+magnitude-round : (f : Format) (s : Bool) (a b : ℕ) → magnitude (round f s a b) ≡ round f false a b
 unfolding round
 magnitude-round f s a b = magnitude-units f s _ _
 
--- ---- one division
-pub power : (j : ℕ) → j < 1024 → HasValue (round binary64 false (2 ^ j) 1) false (2 ^ j) 1
+power : (j : ℕ) → j < 1024 → HasValue (round binary64 false (2 ^ j) 1) false (2 ^ j) 1
 power j h = round-exact binary64 false (2 ^ j) 1 1 (j + 1074) (lit< tt) (lit< tt)
     (subst (λ (k : ℕ). k < 2 ^ 2098) (sym (one-mul (2 ^ (j + 1074)))) (pow-lt {j = 2098} (omega arith)))
     (sym (mul-one (1 * 2 ^ (j + 1074)) ∙ one-mul (2 ^ (j + 1074)) ∙ pow-add 2 j 1074))
 
+-- So what is rounded is no more than a power of two that it was no more than.
+pub rounded : (j : ℕ) (s : Bool) (a c : ℕ) → j < 1024 → 0 < c → a ≤ 2 ^ j * c → Within j (round binary64 s a c)
+rounded j s a c J C h =
+    below j (round binary64 s a c) (round binary64 false (2 ^ j) 1)
+    (subst (λ (x : Float). T (le x (round binary64 false (2 ^ j) 1))) (sym (magnitude-round binary64 s a c)) (round-mono binary64 a c (2 ^ j) 1 C (lit< tt) (omega arith)))
+    (power j J)
+
+-- ---- one division
 quarter : (s : Bool) (m : ℕ) (e : ℤ) → fin s m e ⊘ n4 ≡ round binary64 (unlike s false) (m * up e * 1) (4 * down e)
 unfolding div ofBits
 quarter s m e = refl
@@ -85,15 +92,8 @@ falls : (j : ℕ) (l : Float) → j < 1024 → Within (j + 2) l → Within j (l 
 falls j nan h u = absurd u
 falls j (inf s) h u = absurd u
 falls j (fin s m e) h u =
-    let a = m * up e * 1 in
-    let b = 4 * down e in
-    let w : 2 ^ (j + 2) * down e ≡ 2 ^ j * b = ap (λ (k : ℕ). k * down e) (pow-add 2 j 2) ∙ mul-assoc (2 ^ j) 4 (down e) in
-    let q : a * 1 ≤ 2 ^ j * b = le-trans (le-of-eq (mul-one a ∙ mul-one (m * up e))) (le-trans u (le-of-eq w)) in
-    below j (fin s m e ⊘ n4) (round binary64 false (2 ^ j) 1)
-    (subst (λ (y : Float). T (le y (round binary64 false (2 ^ j) 1)))
-    (sym (ap magnitude (quarter s m e) ∙ magnitude-round binary64 (unlike s false) a b))
-    (round-mono binary64 a b (2 ^ j) 1 (mul-pos (lit< tt) (down-pos e)) (lit< tt) q))
-    (power j h)
+    let w : 2 ^ (j + 2) * down e ≡ 2 ^ j * 4 * down e = ap (λ (k : ℕ). k * down e) (pow-add 2 j 2) in
+    rw (quarter s m e) (rounded j (unlike s false) (m * up e * 1) (4 * down e) h (mul-pos (lit< tt) (down-pos e)) (omega arith))
 
 -- ---- at the start and at the end
 starts : (l : Float) → T (fits binary64 l) → isFinite l ≡ true → Within 1024 l
@@ -106,7 +106,7 @@ starts (fin s (suc m) e) f g =
     (ltb→lt (suc m * up e) (2 ^ 1024 * down e)
     (and-r (eqb (suc m % 2) 1 && ltb (suc m) (2 ^ 53) && leb (down e) (2 ^ 1074)) (ltb (suc m * up e) (2 ^ 1024 * down e)) f))
 
-ends : (l : Float) → Within 0 l → beyondOne l ≡ false
+pub ends : (l : Float) → Within 0 l → beyondOne l ≡ false
 unfolding beyondOne lt ofBits
 ends nan u = absurd u
 ends (inf s) u = absurd u

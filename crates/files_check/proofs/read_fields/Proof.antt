@@ -1,7 +1,7 @@
 -- The words read so far are the first from the place on.
 use Prim.Native.Nat.{ℕ, _+_, _-_, _*_, _≤_}
-use mathlib.Core.List.{List, _++_, append-nil}
-use mathlib.Core.Path.{_≡_, refl, ap, _∙_}
+use mathlib.Core.List.{List, append-nil}
+use mathlib.Core.Path.{_≡_, refl}
 use native.Mathlib.Omega.{arith}
 use borrow.Author.Needs.{needs}
 use lib.ListN.{length, length-set, drop-of-length-le}
@@ -33,10 +33,7 @@ returns c =
     let l = c .before .loop in
     let n = length (a .words .now) in
     let e : n - l .rest ≡ n = omega arith in
-    l .inv .2
-    ∙ ap (withEach (from (a .file .now) (a .place)) (a .words .now)) e
-    ∙ ap (λ (ws : List ℕ). fieldsAt (a .file .now) (a .place) n ++ ws) (drop-of-length-le (a .words .now) {i = n} (omega arith))
-    ∙ append-nil (fieldsAt (a .file .now) (a .place) n)
+    rw (l .inv .2, e, drop-of-length-le (a .words .now) {i = n} (omega arith), append-nil (fieldsAt (a .file .now) (a .place) n))
 
 pub read-fields-spec : {M : Type 1} → statement M
 read-fields-spec =

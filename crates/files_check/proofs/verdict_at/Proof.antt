@@ -1,16 +1,12 @@
 -- The words of the row are those at its place.
-use mathlib.Core.Path.{_∙_}
 use borrow.Author.Needs.{needs}
-use Rattle.files_check.specs.RowsFile.{verdictOf}
 use Rattle.files_check.proofs.verdict_at.Statement.{statement}
 use Rattle.files_check.proofs.verdict_at.Tie as tie
 
 returns : tie.Need-returns
 returns c =
-    let anomaly = c .before in
-    let nine = anomaly .before .before in
-    let given = nine .before .before .before in
-    c .verdict-of .ensures ∙ (λ i. verdictOf (given .read-fields .ensures i) (anomaly .word-at .ensures i) (nine .read-fields2 .ensures i))
+    let nine = c .before .before .before in
+    rw (c .verdict-of .ensures, nine .before .before .before .read-fields .ensures, c .before .word-at .ensures, nine .read-fields2 .ensures)
 
 pub verdict-at-spec : {M : Type 1} → statement M
 verdict-at-spec =

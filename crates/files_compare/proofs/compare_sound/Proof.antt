@@ -1,10 +1,10 @@
 -- The counts differ, the run is too short, or the rows are told.
 use Prim.Native.Nat.{ℕ, _+_, _*_, _≤_, _<_}
-use mathlib.Core.List.{List, _++_}
+use mathlib.Core.List.{List}
 use mathlib.Core.Path.{_≡_, sym, ap, _∙_}
 use native.Mathlib.Omega.{arith}
 use borrow.Author.Needs.{needs}
-use lib.ListN.{length, drop}
+use lib.ListN.{length}
 use Rattle.files_words.specs.Bytes.{put}
 use Rattle.files_words.proofs.PutLaws.{put-fits}
 use Rattle.files_checks.specs.declared.Check.the-variants.{Sound}
@@ -41,11 +41,7 @@ module _ (left right run : List ℕ) (sound : (resultsCheck left ≡ Sound) × (
         let words = rows-length left right n in
         let end : 0 + length (rowsTold left right n) ≡ n * toldWidth = omega (arith, words) in (
           (λ i. comparison.Compared (ev i) ((el ∙ ap (largestOf left right) ev) i)) ∙ sym e,
-          ea
-              ∙ ap (λ (k : ℕ). put run 0 (rowsTold left right k)) ev
-              ∙ put-fits run (rowsTold left right n) 0 (omega (arith, words, ev))
-              ∙ ap (λ (k : ℕ). rowsTold left right n ++ drop k run) end
-              ∙ sym (keeps-or-tells left right run .told _ _ e),
+          rw (ea, ev, put-fits run (rowsTold left right n) 0 (omega (arith, words, ev)), end) (sym (keeps-or-tells left right run .told _ _ e)),
         )
 
 few : (left : List ℕ) → resultsCheck left ≡ Sound → {v : ℕ} → v ≡ rowCount left → v ≤ mostResults

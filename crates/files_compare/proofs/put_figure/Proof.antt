@@ -1,7 +1,7 @@
 -- Two words, one after the other.
 use Prim.Native.Nat.{ℕ, _+_, _≤_}
 use mathlib.Core.List.{List, [], _∷_}
-use mathlib.Core.Path.{_≡_, refl, sym, ap, _∙_}
+use mathlib.Core.Path.{_≡_, refl, sym, ap}
 use native.Mathlib.Omega.{arith}
 use borrow.Author.Needs.{needs}
 use lib.ListN.{length, getD, set, length-set}
@@ -23,15 +23,10 @@ two figure.Untold = refl
 stored : (run : List ℕ) (at a b : ℕ) → at + 2 ≤ length run → set (set run at a) (at + 1) b ≡ put run at (a ∷ b ∷ [])
 stored run at a b h =
     let first : set run at a ≡ put run at (a ∷ []) = put-byte run at a (omega arith) in
-    put-byte (set run at a) (at + 1) b (omega (arith, length-set run at a))
-    ∙ ap (λ (l : List ℕ). put l (at + 1) (b ∷ [])) first
-    ∙ put-next run (a ∷ []) (b ∷ []) at (at + 1) refl (omega arith)
+    rw (put-byte (set run at a) (at + 1) b (omega (arith, length-set run at a)), first) (put-next run (a ∷ []) (b ∷ []) at (at + 1) refl (omega arith))
 
 told : (run : List ℕ) (at : ℕ) (f : Figure) {ws : List ℕ} → at + 2 ≤ length run → ws ≡ figureWords f → set (set run at (getD ws 0 0)) (at + 1) (getD ws 1 0) ≡ put run at (figureWords f)
-told run at f {ws} h e =
-    ap (λ (l : List ℕ). set (set run at (getD l 0 0)) (at + 1) (getD l 1 0)) e
-    ∙ stored run at (getD (figureWords f) 0 0) (getD (figureWords f) 1 0) h
-    ∙ ap (put run at) (sym (two f))
+told run at f {ws} h e = rw (e, stored run at (getD (figureWords f) 0 0) (getD (figureWords f) 1 0) h) (ap (put run at) (sym (two f)))
 
 returns : tie.Need-returns
 returns c =

@@ -1,7 +1,7 @@
 -- The word of the rows, then their figures behind it.
 use Prim.Native.Nat.{ℕ, _+_, _*_, _≤_}
 use mathlib.Core.List.{List, [], _∷_}
-use mathlib.Core.Path.{_≡_, refl, ap, _∙_}
+use mathlib.Core.Path.{_≡_, refl, _∙_}
 use native.Mathlib.Omega.{arith}
 use borrow.Author.Needs.{needs}
 use lib.ListN.{length, set, length-set}
@@ -24,10 +24,7 @@ module _ (l r : List ℕ) (k : ℕ) where
   told run fits {kind} er {w} ew ea =
       let at = k * toldWidth in
       let figures = figuresTold l r resultFigures in
-      ea
-      ∙ ap (λ (l : List ℕ). put l (at + 1) figures) (put-byte run at w (omega arith))
-      ∙ put-next run (w ∷ []) figures at (at + 1) refl (omega (arith, figures-length l r resultFigures))
-      ∙ ap (λ (n : ℕ). put run at (n ∷ figures)) (ew ∙ ap rowKindWord er)
+      rw (ea, put-byte run at w (omega arith), put-next run (w ∷ []) figures at (at + 1) refl (omega (arith, figures-length l r resultFigures)), ew, er)
 
 tell-figures-requires : tie.Need-tell-figures-requires
 tell-figures-requires c κs =

@@ -1,14 +1,10 @@
 -- The first eleven of the answer's words, put where the row stands.
-use Prim.Native.Nat.{ℕ}
-use mathlib.Core.Path.{_≡_, _∙_, ap, ap₂}
-use mathlib.Core.List.{List}
+use mathlib.Core.Path.{_≡_, ap}
 use native.Mathlib.Omega.{arith}
 use borrow.Author.Needs.{needs}
-use lib.ListN.{length, take, length-take}
+use lib.ListN.{length, length-take}
 use Rattle.states_arcs.specs.Results.{figuresOf}
-use Rattle.states.specs.Call.{answerWords, propagateOf}
-use Rattle.files_words.specs.Bytes.{asBytes, put}
-use Rattle.files_formats.specs.Rows.{resultWidth}
+use Rattle.states.specs.Call.{answerWords}
 use Rattle.files_results.specs.Results.{rowOf}
 use Rattle.files_results.proofs.put_row.Statement.{statement}
 use Rattle.files_results.proofs.put_row.Tie as tie
@@ -23,10 +19,8 @@ returns : tie.Need-returns
 unfolding rowOf
 returns c =
     let w = c .before .before .before .before .before .before in
-    let a = w .before .before .before .before .before .args in
-    let words = w .words-of .ensures ∙ ap answerWords (w .before .propagate .ensures ∙ ap propagateOf (w .before .before .request-words .ensures)) in
-    c .before .before .put-words .ensures
-    ∙ ap₂ (λ (p : ℕ) (words : List ℕ). put (a .room .now) p (asBytes (take resultWidth words))) (c .before .before .before .before .row-place .ensures) words
+    rw (c .before .before .put-words .ensures, c .before .before .before .before .row-place .ensures)
+    (rw (w .words-of .ensures, w .before .propagate .ensures, w .before .before .request-words .ensures))
 
 pub put-row-spec : {M : Type 1} → statement M
 put-row-spec =

@@ -46,9 +46,7 @@ loop-again c =
     let n = a .shape .requests in
     let more = c .before .before .before .before .loop-test .taken in (
       omega arith,
-      c .before .before .put-row .ensures
-          ∙ ap (withRow (a .file .now) (a .shape) (n - l .left)) (l .inv .1)
-          ∙ next (a .file .now) (a .shape) (a .room .now) n (l .left) more (l .inv .0) (start .pre .1),
+      rw (c .before .before .put-row .ensures, l .inv .1) (next (a .file .now) (a .shape) (a .room .now) n (l .left) more (l .inv .0) (start .pre .1)),
     )
 
 same-length : tie.Need-same-length Inv-loop μ-loop

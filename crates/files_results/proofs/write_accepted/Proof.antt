@@ -1,13 +1,13 @@
 -- The head and the rows fit, or nothing is written.
 use Prim.Native.Nat.{_≤_}
-use mathlib.Core.Path.{_≡_, _∙_, ap, sym}
+use mathlib.Core.Path.{_≡_, _∙_, sym}
 use native.Mathlib.Omega.{arith}
 use borrow.Author.Needs.{needs}
 use lib.ListN.{length}
 use Rattle.files_words.specs.Bytes.{asBytes}
 use Rattle.files_results.proofs.Rows.{result-length, all-rows, too-short, long-enough}
 use Rattle.files_formats.specs.Rows.{resultPlace}
-use Rattle.files_results.specs.Results.{sectionsWords, withRows}
+use Rattle.files_results.specs.Results.{sectionsWords}
 use Rattle.files_results.proofs.write_accepted.Statement.{statement}
 use Rattle.files_results.proofs.write_accepted.Tie as tie
 
@@ -31,9 +31,7 @@ returns-2 c =
     let file = a .file .now in
     let long : resultPlace (a .shape .requests) ≤ length (a .room .now) = omega (arith, p .if1 .left, p .before .row-place .ensures) in (
       long-enough (asBytes (sectionsWords file (a .shape))) (a .room .now) (sized (p .before)) (p .if1 .left),
-      c .before .before .put-rows .ensures
-          ∙ ap (withRows file (a .shape) (a .shape .requests)) (c .before .before .before .before .before .before .put-words .ensures)
-          ∙ all-rows file (a .shape) (a .room .now) long,
+      rw (c .before .before .put-rows .ensures, c .before .before .before .before .before .before .put-words .ensures) (all-rows file (a .shape) (a .room .now) long),
     )
 
 pub write-accepted-spec : {M : Type 1} → statement M

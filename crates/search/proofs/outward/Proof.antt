@@ -42,12 +42,6 @@ loop-again c =
       omega arith,
     )
 
-returns-2 : tie.Need-returns-2 Inv-loop μ-loop
-returns-2 c =
-    let l = c .before .loop in
-    let a = c .before .before .before .args in
-    outward-none (trialAt (a .initial) (a .tau)) (l .left) (l .points) (l .place) (l .short) (c .loop-test .left) ∙ l .inv .0
-
 pub outward-spec : {M : Type 1} → statement M
 outward-spec =
     tie.close
@@ -65,4 +59,4 @@ outward-spec =
     (λ c. omega arith)
     (λ c. omega arith)
     loop-again
-    returns-2)
+    (λ c. outward-none _ _ _ _ _ (c .loop-test .left) ∙ c .before .loop .inv .0))

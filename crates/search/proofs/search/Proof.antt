@@ -34,10 +34,6 @@ of-interval : (i : Initial) (tau : Seconds) (h : Anomaly) → eq (tau .0) n0 ≡
 unfolding searchChoosing
 of-interval i tau h e = sym (rw e)
 
-returns : tie.Need-returns
-unfolding searchChoosing
-returns c = simp (c .if1 .taken)
-
 inward-requires : tie.Need-inward-requires
 inward-requires c κs =
     let a = c .before .before .before .before .before .before .before .args in
@@ -69,10 +65,11 @@ returns-3 c =
     ∙ of-interval (a .initial) (a .tau) (a .h) (c .before .before .before .before .if1 .left)
 
 pub search-spec : {M : Type 1} → statement M
+unfolding searchChoosing
 search-spec =
     tie.close
     (tie.spec
-    returns
+    (λ c. simp (c .if1 .taken))
     (λ c κs. search needs)
     (λ c κs. search needs)
     (λ c. search needs)

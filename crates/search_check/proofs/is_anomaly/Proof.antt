@@ -3,53 +3,24 @@ use mathlib.Core.Path.{_≡_, sym, _∙_, ap}
 use native.Mathlib.Omega.{arith}
 use borrow.Author.Needs.{needs}
 use Prim.Native.Nat.{ℕ}
+use Rattle.series.specs.declared.figures.Seconds.{Seconds}
+use Rattle.search_points.specs.declared.figures.Initial.{Initial}
 use Rattle.search_points.specs.declared.figures.Sort.{Sort}
 use Rattle.search_points.specs.declared.figures.Trial.{Trial}
 use Rattle.search_points.specs.Trial.{trialAt}
-use Rattle.search_rule.specs.Rule.{Trials}
 use Rattle.search_check.specs.Passing.{passesAs, passes}
-use Rattle.search_check.proofs.Sorted.{short-readable, past-above}
+use Rattle.search_check.proofs.Sorted.{sorted-readable, past-above}
 use Rattle.search_check.proofs.is_anomaly.Statement.{statement}
 use Rattle.search_check.proofs.is_anomaly.Tie as tie
 
 -- The trial's sort, as the match shows it, is the place's.
-module _ (ev : Trials) (p : ℕ) (t : Trial) (e : t ≡ ev p) {s : Sort} (shown : t .sort ≡ s) where
-  sorted : ev p .sort ≡ s
+module _ (i : Initial) (tau : Seconds) (p : ℕ) (t : Trial) (e : t ≡ trialAt i tau p) {s : Sort} (shown : t .sort ≡ s) where
+  sorted : trialAt i tau p .sort ≡ s
   sorted = sym (ap (λ (x : Trial). x .sort) e) ∙ shown
 
-  as-sorted : passesAs ev p s ≡ passes ev p
+  as-sorted : passesAs (trialAt i tau) p s ≡ passes (trialAt i tau) p
   unfolding passes
-  as-sorted = sym (ap (passesAs ev p) sorted)
-
-short-passes-requires : tie.Need-short-passes-requires
-short-passes-requires c κs =
-    let a = c .before .before .before .before .args in
-    let e = sorted (trialAt (a .initial) (a .tau)) (a .place) _ (c .before .before .before .try-at .ensures) (c .before .sort .given .1) in
-    omega (arith, short-readable (a .initial) (a .tau) (a .place) _ e)
-
-past-passes-requires : tie.Need-past-passes-requires
-past-passes-requires c κs =
-    let a = c .before .before .before .before .args in
-    let e = sorted (trialAt (a .initial) (a .tau)) (a .place) _ (c .before .before .before .try-at .ensures) (c .before .sort2 .given .1) in
-    past-above (a .initial) (a .tau) (a .place) _ e
-
-returns : tie.Need-returns
-returns c = let a = c .before .before .before .args in as-sorted (trialAt (a .initial) (a .tau)) (a .place) _ (c .before .before .try-at .ensures) (c .enum-told .given .1)
-
-returns-2 : tie.Need-returns-2
-returns-2 c =
-    let a = c .before .before .before .before .before .args in
-    c .short-passes .ensures
-    ∙ as-sorted (trialAt (a .initial) (a .tau)) (a .place) _ (c .before .before .before .before .try-at .ensures) (c .before .before .sort .given .1)
-
-returns-3 : tie.Need-returns-3
-returns-3 c =
-    let a = c .before .before .before .before .before .args in
-    c .past-passes .ensures
-    ∙ as-sorted (trialAt (a .initial) (a .tau)) (a .place) _ (c .before .before .before .before .try-at .ensures) (c .before .before .sort2 .given .1)
-
-returns-4 : tie.Need-returns-4
-returns-4 c = let a = c .before .before .before .args in as-sorted (trialAt (a .initial) (a .tau)) (a .place) _ (c .before .before .try-at .ensures) (c .enum-told2 .given .1)
+  as-sorted = sym (ap (passesAs (trialAt i tau) p) sorted)
 
 pub is-anomaly-spec : {M : Type 1} → statement M
 is-anomaly-spec =
@@ -58,11 +29,11 @@ is-anomaly-spec =
     (λ c κs. search needs)
     (λ c. search needs)
     (λ c. search needs)
-    short-passes-requires
+    (λ c κs. omega (arith, sorted-readable _ _ _ _ (sorted _ _ _ _ (c .before .before .before .try-at .ensures) (c .before .sort .given .1)) (λ z. z)))
     (λ c. search needs)
-    past-passes-requires
+    (λ c κs. past-above _ _ _ _ (sorted _ _ _ _ (c .before .before .before .try-at .ensures) (c .before .sort2 .given .1)))
     (λ c. search needs)
-    returns
-    returns-2
-    returns-3
-    returns-4)
+    (λ c. as-sorted _ _ _ _ (c .before .before .try-at .ensures) (c .enum-told .given .1))
+    (λ c. c .short-passes .ensures ∙ as-sorted _ _ _ _ (c .before .before .before .before .try-at .ensures) (c .before .before .sort .given .1))
+    (λ c. c .past-passes .ensures ∙ as-sorted _ _ _ _ (c .before .before .before .before .try-at .ensures) (c .before .before .sort2 .given .1))
+    (λ c. as-sorted _ _ _ _ (c .before .before .try-at .ensures) (c .enum-told2 .given .1)))

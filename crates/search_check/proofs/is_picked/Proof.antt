@@ -4,13 +4,10 @@ use Rattle.search_check.specs.Passing.{picks}
 use Rattle.search_check.proofs.is_picked.Statement.{statement}
 use Rattle.search_check.proofs.is_picked.Tie as tie
 
-returns : tie.Need-returns
-unfolding picks
-returns c = simp (c .before .nearer-end .ensures)
-
 pub is-picked-spec : {M : Type 1} → statement M
+unfolding picks
 is-picked-spec =
     tie.close
     (tie.spec
     (λ c κs. search needs)
-    returns)
+    (λ c. simp (c .before .nearer-end .ensures)))

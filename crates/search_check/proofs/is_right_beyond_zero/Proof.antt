@@ -5,19 +5,12 @@ use Rattle.search_check.specs.Right.{isRightBeyondZero}
 use Rattle.search_check.proofs.is_right_beyond_zero.Statement.{statement}
 use Rattle.search_check.proofs.is_right_beyond_zero.Tie as tie
 
-returns : tie.Need-returns
-unfolding isRightBeyondZero
-returns c = simp (sym (c .before .before .has-sign-of .ensures) ∙ c .before .if1 .taken) (c .is-anomaly .ensures)
-
-returns-2 : tie.Need-returns-2
-unfolding isRightBeyondZero
-returns-2 c = simp (sym (c .before .has-sign-of .ensures) ∙ c .if1 .left)
-
 pub is-right-beyond-zero-spec : {M : Type 1} → statement M
+unfolding isRightBeyondZero
 is-right-beyond-zero-spec =
     tie.close
     (tie.spec
     (λ c κs. search needs)
     (λ c κs. search needs)
-    returns
-    returns-2)
+    (λ c. simp (sym (c .before .before .has-sign-of .ensures) ∙ c .before .if1 .taken) (c .is-anomaly .ensures))
+    (λ c. simp (sym (c .before .has-sign-of .ensures) ∙ c .if1 .left)))

@@ -6,15 +6,12 @@ use Rattle.search_check.specs.Passing.{pastBeside, pastPasses}
 use Rattle.search_check.proofs.past_passes.Statement.{statement}
 use Rattle.search_check.proofs.past_passes.Tie as tie
 
-returns : tie.Need-returns
-unfolding pastPasses
-returns c = c .past-beside .ensures ∙ ap (λ (t : Trial). pastBeside (c .before .before .before .args .past) (t .sort)) (c .before .try-at .ensures)
-
 pub past-passes-spec : {M : Type 1} → statement M
+unfolding pastPasses
 past-passes-spec =
     tie.close
     (tie.spec
     (λ c. search needs)
     (λ c κs. search needs)
     (λ c κs. search needs)
-    returns)
+    (λ c. c .past-beside .ensures ∙ ap (λ (t : Trial). pastBeside (c .before .before .before .args .past) (t .sort)) (c .before .try-at .ensures)))

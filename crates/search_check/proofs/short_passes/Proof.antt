@@ -6,15 +6,12 @@ use Rattle.search_check.specs.Passing.{shortBeside, shortPasses}
 use Rattle.search_check.proofs.short_passes.Statement.{statement}
 use Rattle.search_check.proofs.short_passes.Tie as tie
 
-returns : tie.Need-returns
-unfolding shortPasses
-returns c = c .short-beside .ensures ∙ ap (λ (t : Trial). shortBeside (c .before .before .before .args .short) (t .sort)) (c .before .try-at .ensures)
-
 pub short-passes-spec : {M : Type 1} → statement M
+unfolding shortPasses
 short-passes-spec =
     tie.close
     (tie.spec
     (λ c. search needs)
     (λ c κs. search needs)
     (λ c κs. search needs)
-    returns)
+    (λ c. c .short-beside .ensures ∙ ap (λ (t : Trial). shortBeside (c .before .before .before .args .short) (t .sort)) (c .before .try-at .ensures)))

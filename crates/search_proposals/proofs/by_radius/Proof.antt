@@ -4,10 +4,6 @@ use Rattle.search_proposals.specs.Proposals.{byRadius}
 use Rattle.search_proposals.proofs.by_radius.Statement.{statement}
 use Rattle.search_proposals.proofs.by_radius.Tie as tie
 
-returns : tie.Need-returns
-unfolding byRadius
-returns c = simp (← (c .before .radius .ensures), c .if1 .taken)
-
 returns-2 : tie.Need-returns-2
 unfolding byRadius
 returns-2 c =
@@ -16,11 +12,12 @@ returns-2 c =
     (simp (c .before .before .before .anomaly-at .ensures, last .last-tried .ensures) at (c .offered .ensures))
 
 pub by-radius-spec : {M : Type 1} → statement M
+unfolding byRadius
 by-radius-spec =
     tie.close
     (tie.spec
     (λ c κs. search needs)
-    returns
+    (λ c. simp (← (c .before .radius .ensures), c .if1 .taken))
     (λ c κs. search needs)
     (λ c κs. search needs)
     (λ c κs. search needs)

@@ -23,11 +23,8 @@ returns-2 c =
       sym (c .before .has-sign .ensures) ∙ c .if2 .left,
     )
 
-returns-3 : tie.Need-returns-3
-unfolding offeredAt
-returns-3 c = simp (sym (c .before .is-finite .ensures) ∙ c .if1 .left)
-
 pub offered-spec : {M : Type 1} → statement M
+unfolding offeredAt
 offered-spec =
     tie.close
     (tie.spec
@@ -37,4 +34,4 @@ offered-spec =
     (λ c κs. search needs)
     returns
     returns-2
-    returns-3)
+    (λ c. simp (sym (c .before .is-finite .ensures) ∙ c .if1 .left)))

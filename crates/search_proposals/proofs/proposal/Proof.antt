@@ -5,10 +5,6 @@ use Rattle.search_proposals.specs.Proposals.{proposed}
 use Rattle.search_proposals.proofs.proposal.Statement.{statement}
 use Rattle.search_proposals.proofs.proposal.Tie as tie
 
-returns : tie.Need-returns
-unfolding proposed
-returns c = simp (← (c .before .by-radius .ensures), ne-eqb _ _ (c .if1 .taken))
-
 returns-2 : tie.Need-returns-2
 unfolding proposed
 returns-2 c =
@@ -33,11 +29,12 @@ returns-3 c =
     (c .by-ends .ensures)
 
 pub proposal-spec : {M : Type 1} → statement M
+unfolding proposed
 proposal-spec =
     tie.close
     (tie.spec
     (λ c κs. search needs)
-    returns
+    (λ c. simp (← (c .before .by-radius .ensures), ne-eqb _ _ (c .if1 .taken)))
     (λ c κs. search needs)
     returns-2
     (λ c κs. search needs)

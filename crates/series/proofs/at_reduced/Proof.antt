@@ -4,14 +4,11 @@ use Rattle.series.specs.Series.{atReduced}
 use Rattle.series.proofs.at_reduced.Statement.{statement}
 use Rattle.series.proofs.at_reduced.Tie as tie
 
-returns : tie.Need-returns
-unfolding atReduced
-returns c = simp (c .before .c4-of .ensures, c .c5-of .ensures)
-
 pub at-reduced-spec : {M : Type 1} → statement M
+unfolding atReduced
 at-reduced-spec =
     tie.close
     (tie.spec
     (λ c κs. search needs)
     (λ c κs. search needs)
-    returns)
+    (λ c. simp (c .before .c4-of .ensures, c .c5-of .ensures)))

@@ -4,9 +4,6 @@ use Rattle.series.specs.Series.{nested, c5Of}
 use Rattle.series.proofs.c5_of.Statement.{statement}
 use Rattle.series.proofs.c5_of.Tie as tie
 
-returns : tie.Need-returns
-unfolding nested c5Of
-returns c = refl
-
 pub c5-of-spec : {M : Type 1} → statement M
-c5-of-spec = tie.close (tie.spec returns)
+unfolding nested c5Of
+c5-of-spec = tie.close (tie.spec (λ c. refl))

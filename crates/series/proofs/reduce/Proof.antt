@@ -39,11 +39,6 @@ loop-again c =
           ∙ at .inv .1,
     )
 
-returns : tie.Need-returns Inv-loop μ-loop
-returns c =
-    let at = c .before .before .before .loop in
-    sym (stays (512 - at .m) (beyondOne (at .l)) (at .l) (at .m) (sym (c .before .beyond-one .ensures) ∙ c .if1 .left)) ∙ at .inv .1
-
 pub reduce-spec : {M : Type 1} → statement M
 reduce-spec =
     tie.close
@@ -55,5 +50,5 @@ reduce-spec =
     (λ c. omega arith)
     (λ c. omega arith)
     loop-again
-    returns
+    (λ c. sym (stays _ _ _ _ (sym (c .before .beyond-one .ensures) ∙ c .if1 .left)) ∙ c .before .before .before .loop .inv .1)
     (λ c. let at = c .before .loop in sym (spent (512 - at .m) (beyondOne (at .l)) (at .l) (at .m) (omega arith)) ∙ at .inv .1))

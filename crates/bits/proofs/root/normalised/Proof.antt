@@ -4,7 +4,7 @@ use Prim.Native.Nat.{_*_, _%_, _^_}
 use native.Mathlib.Nat.{lt-of-le-of-lt}
 use native.Mathlib.Omega.{arith}
 use lib.Count.{leading-le}
-use Rattle.bits.proofs.Leading.{up, zeros-enough, up-small, moved-up}
+use Rattle.bits.proofs.Leading.{up, up-small, moved-up}
 use Rattle.bits.proofs.root.normalised.Statement.{statement}
 use Rattle.bits.proofs.root.normalised.Tie as tie
 
@@ -20,7 +20,7 @@ normalised-spec =
     tie.close
     (tie.spec
     (λ c. record { fits = lt-of-le-of-lt (leading-le 64 _) (omega arith) })
-    (λ c. zeros-enough (omega arith) (omega arith))
-    (λ c. lt-of-le-of-lt (up-small (omega arith) (omega arith)) (omega arith))
-    (λ c. up-small (omega arith) (omega arith))
+    (λ c. up-small (omega arith) (omega arith) .0)
+    (λ c. lt-of-le-of-lt (up-small (omega arith) (omega arith) .1) (omega arith))
+    (λ c. up-small (omega arith) (omega arith) .1)
     returns)

@@ -21,33 +21,16 @@ Inv-loop one other k₀ k = sameWords (drop k one) (drop k other) ≡ sameWords 
 abbrev μ-loop : tie.MeasureT-loop
 μ-loop one other k₀ k = length one - k
 
-module _ (one other : List ℕ) (k : ℕ) where
-  turn : (b : Bool) → k < length one → k < length other → eqb (getD one k 0) (getD other k 0) ≡ b
-      → sameWords (drop k one) (drop k other) ≡ b && sameWords (drop (k + 1) one) (drop (k + 1) other)
+-- What is left decides w: at this turn, with the next words' outcome, and at the end.
+module _ (one other : List ℕ) (k : ℕ) {w : Bool} (inv : sameWords (drop k one) (drop k other) ≡ w) where
+  turn : {b : Bool} → eqb (getD one k 0) (getD other k 0) ≡ b → k < length one → length one ≡ length other
+      → b && sameWords (drop (k + 1) one) (drop (k + 1) other) ≡ w
   unfolding sameWords
-  turn b h l e = rw (add-one, drop-cons one k 0, drop-cons other k 0, e)
+  turn e h l = let g : k < length other = omega arith in rw add-one (rw (drop-cons one k 0, drop-cons other k 0, e) at inv)
 
-  over : length one ≤ k → length other ≤ k → sameWords (drop k one) (drop k other) ≡ true
+  over : length one ≤ k → length one ≡ length other → true ≡ w
   unfolding sameWords
-  over h l = rw (drop-of-length-le one h, drop-of-length-le other l)
-
-returns-2 : tie.Need-returns-2 Inv-loop μ-loop
-returns-2 c =
-    let at = c .before .before .before .before .loop in
-    let a = c .before .before .before .before .before .before .args in
-    sym (turn (a .one .now) (a .other .now) (at .k) false (omega arith) (omega arith) (ne-eqb _ _ (c .if2 .taken))) ∙ at .inv
-
-loop-again : tie.Need-loop-again Inv-loop μ-loop
-loop-again c =
-    let at = c .before .before .before .before .loop in
-    let a = c .before .before .before .before .before .before .args in
-    sym (turn (a .one .now) (a .other .now) (at .k) true (omega arith) (omega arith) (eq-eqb _ _ (c .if2 .left))) ∙ at .inv
-
-returns-3 : tie.Need-returns-3 Inv-loop μ-loop
-returns-3 c =
-    let at = c .before .loop in
-    let a = c .before .before .before .args in
-    sym (over (a .one .now) (a .other .now) (at .k) (omega arith) (omega arith)) ∙ at .inv
+  over h l = let g : length other ≤ k = omega arith in rw (drop-of-length-le one h, drop-of-length-le other g) at inv
 
 pub are-same-spec : {M : Type 1} → statement M
 are-same-spec =
@@ -61,8 +44,12 @@ are-same-spec =
     (λ c. search needs)
     (λ c. search needs)
     (λ c. omega arith)
-    returns-2
+    (λ c.
+    let l = c .before .before .before in
+    turn _ _ _ (l .before .loop .inv) (ne-eqb _ _ (c .if2 .taken)) (l .loop-test .taken) (l .before .before .if1 .left))
     (λ c. omega arith)
     (λ c. omega arith)
-    loop-again
-    returns-3)
+    (λ c.
+    let l = c .before .before .before in
+    turn _ _ _ (l .before .loop .inv) (eq-eqb _ _ (c .if2 .left)) (l .loop-test .taken) (l .before .before .if1 .left))
+    (λ c. over _ _ _ (c .before .loop .inv) (c .loop-test .left) (c .before .before .if1 .left)))

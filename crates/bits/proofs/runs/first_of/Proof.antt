@@ -20,28 +20,15 @@ Inv-loop words sought k₀ k = k + firstOf sought (drop k words) ≡ firstOf sou
 abbrev μ-loop : tie.MeasureT-loop
 μ-loop words sought k₀ k = length words - k
 
-module _ (s : Sought) (words : List ℕ) (k : ℕ) where
-  turn : (b : Bool) → k < length words → b ≡ isSought s (getD words k 0) → firstOf s (drop k words) ≡ pick b 0 (1 + firstOf s (drop (k + 1) words))
+-- What is left says where the first, w, stands: at this turn, and at the end.
+module _ (s : Sought) (words : List ℕ) (k : ℕ) {w : ℕ} (inv : k + firstOf s (drop k words) ≡ w) where
+  turn : {r b : Bool} → r ≡ isSought s (getD words k 0) → r ≡ b → k < length words → k + pick b 0 (1 + firstOf s (drop (k + 1) words)) ≡ w
   unfolding firstOf
-  turn b h e = rw (add-one, drop-cons words k 0, e)
+  turn e f h = rw add-one (rw (drop-cons words k 0, ← e, f) at inv)
 
-  over : length words ≤ k → firstOf s (drop k words) ≡ 0
+  over : length words ≤ k → k + 0 ≡ w
   unfolding firstOf
-  over h = rw (drop-of-length-le words h)
-
-returns : tie.Need-returns Inv-loop μ-loop
-returns c =
-    let at = c .before .before .before .before .loop in
-    let a = c .before .before .before .before .before .before .args in
-    let e = turn (a .sought) (a .words .now) (at .number) true (c .before .before .before .loop-test .taken) (sym (c .if1 .taken) ∙ c .before .is-sought .ensures) in
-    omega (arith, e)
-
-loop-again : tie.Need-loop-again Inv-loop μ-loop
-loop-again c =
-    let at = c .before .before .before .before .loop in
-    let a = c .before .before .before .before .before .before .args in
-    let e = turn (a .sought) (a .words .now) (at .number) false (c .before .before .before .loop-test .taken) (sym (c .if1 .left) ∙ c .before .is-sought .ensures) in
-    omega (arith, e)
+  over h = rw (drop-of-length-le words h) at inv
 
 pub first-of-spec : {M : Type 1} → statement M
 first-of-spec =
@@ -53,8 +40,12 @@ first-of-spec =
     (λ c. search needs)
     (λ c. search needs)
     (λ c κs. search needs)
-    returns
+    (λ c.
+    let l = c .before .before .before in
+    omega (arith, turn _ _ _ (l .before .loop .inv) (c .before .is-sought .ensures) (c .if1 .taken) (l .loop-test .taken)))
     (λ c. omega arith)
     (λ c. omega arith)
-    loop-again
-    (λ c. let a = c .before .before .before .args in omega (arith, over (a .sought) (a .words .now) (c .before .loop .number) (c .loop-test .left))))
+    (λ c.
+    let l = c .before .before .before in
+    omega (arith, turn _ _ _ (l .before .loop .inv) (c .before .is-sought .ensures) (c .if1 .left) (l .loop-test .taken)))
+    (λ c. omega (arith, over _ _ _ (c .before .loop .inv) (c .loop-test .left))))

@@ -16,13 +16,12 @@ use Rattle.bits.proofs.Doubles.{finite-by-field}
 use Rattle.bits.proofs.words.is_finite_word.Statement.{statement}
 use Rattle.bits.proofs.words.is_finite_word.Tie as tie
 
-finite-kind : Kind → Bool
+abbrev finite-kind : Kind → Bool
 finite-kind ZeroOrSubnormal = true
 finite-kind Normal = true
 finite-kind NotFinite = false
 
 by-field : (n : ℕ) → finite-kind (pick (eqb n 0) ZeroOrSubnormal (pick (leb n 2046) Normal NotFinite)) ≡ leb n 2046
-unfolding finite-kind
 by-field n = go (eqb n 0) (leb n 2046) (λ e. le-leb n 2046 (omega (arith, eqb-true n 0 e)))
   where
     go : (a b : Bool) → (a ≡ true → b ≡ true) → finite-kind (pick a ZeroOrSubnormal (pick b Normal NotFinite)) ≡ b
@@ -33,18 +32,6 @@ by-field n = go (eqb n 0) (leb n 2046) (λ e. le-leb n 2046 (omega (arith, eqb-t
 by-kind : (w : ℕ) (k : Kind) → k ≡ kindOf w → finite-kind k ≡ isFinite (ofBits binary64 w)
 by-kind w k e = ap finite-kind e ∙ by-field (fieldOf w) ∙ sym (finite-by-field w)
 
-returns : tie.Need-returns
-unfolding finite-kind
-returns c = by-kind _ ZeroOrSubnormal (sym (c .enum-told .given .1) ∙ c .before .before .kind-of .ensures)
-
-returns-2 : tie.Need-returns-2
-unfolding finite-kind
-returns-2 c = by-kind _ Normal (sym (c .enum-told2 .given .1) ∙ c .before .before .kind-of .ensures)
-
-returns-3 : tie.Need-returns-3
-unfolding finite-kind
-returns-3 c = by-kind _ NotFinite (sym (c .enum-told3 .given .1) ∙ c .before .before .kind-of .ensures)
-
 pub is-finite-word-spec : {M : Type 1} → statement M
 is-finite-word-spec =
     tie.close
@@ -53,6 +40,6 @@ is-finite-word-spec =
     (λ c. search needs)
     (λ c. search needs)
     (λ c. search needs)
-    returns
-    returns-2
-    returns-3)
+    (λ c. by-kind _ ZeroOrSubnormal (sym (c .enum-told .given .1) ∙ c .before .before .kind-of .ensures))
+    (λ c. by-kind _ Normal (sym (c .enum-told2 .given .1) ∙ c .before .before .kind-of .ensures))
+    (λ c. by-kind _ NotFinite (sym (c .enum-told3 .given .1) ∙ c .before .before .kind-of .ensures)))

@@ -1,13 +1,10 @@
 -- The record's length first, since a centre is read off it; then one test after another.
-use mathlib.Core.Path.{_≡_, ap, ap₂, _∙_}
-use mathlib.Core.Bool.{Bool}
-use Prim.Native.Nat.{ℕ, _<_}
+use mathlib.Core.Path.{_≡_, _∙_}
+use Prim.Native.Nat.{_<_}
 use native.Mathlib.Omega.{arith}
 use borrow.Author.Needs.{needs}
-use lib.Dec.{ltb}
-use lib.ListN.{length, getD}
+use lib.ListN.{length}
 use Rattle.files_summary.specs.Entries.{stateWidth}
-use Rattle.files_summary.specs.Changes.{refuse, lentRefusal}
 use Rattle.files_summary.proofs.EntryLaws.{centre-inside}
 use Rattle.files_summary.proofs.RefusalLaws.{append-by, no-record}
 use Rattle.files_summary.proofs.changes.append_refusal.Statement.{statement}
@@ -31,13 +28,8 @@ returns-2 c =
     let most = two .before .before in
     let column = most .before .before .before in
     let a = column .before .before .before .before .args in
-    let number = ap (λ (n : ℕ). ltb (getD (a .state .now) n 0) (a .roster .centres)) (column .column-at .ensures .0) in
-    let full = ap (λ (n : ℕ). ltb (a .roster .count) n) (most .limit .ensures) in
-    c .lent-refusal .ensures
-    ∙ ap (lentRefusal (a .words) (a .roster) (a .listed))
-    (c .before .refuse2 .ensures
-    ∙ ap₂ (λ (b : Bool) (n : ℕ). refuse b 24 n) number (two .refuse .ensures ∙ ap (λ (b : Bool). refuse b 42 0) full))
-    ∙ append-by (a .state .now) (a .words) (a .roster) (a .listed) (inside column .0)
+    rw (c .lent-refusal .ensures, c .before .refuse2 .ensures, two .refuse .ensures, column .column-at .ensures .0, most .limit .ensures)
+    (append-by (a .state .now) (a .words) (a .roster) (a .listed) (inside column .0))
 
 pub append-refusal-spec : {M : Type 1} → statement M
 append-refusal-spec =

@@ -15,9 +15,7 @@ use Rattle.files_summary.proofs.changes.append_state.Tie as tie
 -- The number is that of the refusal.
 told : (c : tie.After-append-refusal) → let a = c .before .before .before .before .args in
     c .append-refusal .result ≡ appendRefusal (a .state .now) (length (a .states .now)) (a .roster) (oneEach (a .each) (a .long) (a .roster .centres))
-told c =
-    let a = c .before .before .before .before .args in
-    c .append-refusal .ensures ∙ ap (appendRefusal (a .state .now) (length (a .states .now)) (a .roster)) (c .before .one-each .ensures)
+told c = rw (c .append-refusal .ensures, c .before .one-each .ensures)
 
 returns : tie.Need-returns
 returns c =

@@ -1,9 +1,9 @@
 -- The run has the state's words.
-use mathlib.Core.Path.{sym, ap, ap₂, _∙_}
+use mathlib.Core.Path.{sym, ap}
 use Prim.Native.Nat.{ℕ, suc, _+_, _*_, _<_, _≤_}
 use native.Mathlib.Omega.{arith}
 use borrow.Author.Needs.{needs}
-use lib.ListN.{length, getD}
+use lib.ListN.{length}
 use Rattle.files_records.proofs.RecordLaws.{word-in}
 use Rattle.files_formats.specs.declared.elements.Column.the-variants as at
 use Rattle.files_formats.specs.Elements.{columnOf}
@@ -26,8 +26,8 @@ returns : tie.Need-returns
 returns c =
     let column = c .before in
     let a = column .before .before .before .args in
-    ap₂ (λ (w n : ℕ). getD (a .states .now) (a .which * w + n) 0) (column .before .width .ensures .0) (column .column-at .ensures .0)
-    ∙ sym (word-in (stateWidth (a .edition)) (a .states .now) (a .which) (columnOf (a .edition) at.Centre) (centre-inside (a .edition)))
+    rw (column .before .width .ensures .0, column .column-at .ensures .0)
+    (sym (word-in (stateWidth (a .edition)) (a .states .now) (a .which) (columnOf (a .edition) at.Centre) (centre-inside (a .edition))))
 
 pub centre-at-spec : {M : Type 1} → statement M
 centre-at-spec =

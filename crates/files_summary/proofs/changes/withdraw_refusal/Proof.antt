@@ -1,13 +1,11 @@
 -- By the tests in their order; where the run and the count are as they have to be, every state in use has its words.
-use mathlib.Core.Path.{sym, ap, _∙_}
+use mathlib.Core.Path.{sym, _∙_}
 use mathlib.Core.Bool.{true, false}
-use Prim.Native.Nat.{ℕ, suc}
+use Prim.Native.Nat.{suc}
 use native.Mathlib.Omega.{arith}
 use borrow.Author.Needs.{needs}
 use borrow.Author.Tests.{lt-ltb, le-ltb}
-use lib.Dec.{ltb}
 use lib.ListN.{length}
-use Rattle.files_summary.specs.Changes.{refuse}
 use Rattle.files_summary.proofs.RefusalLaws.{Lent, lent-well, has-room, withdraw-lent, withdraw-by}
 use Rattle.files_summary.proofs.changes.withdraw_refusal.Statement.{statement}
 use Rattle.files_summary.proofs.changes.withdraw_refusal.Tie as tie
@@ -40,9 +38,8 @@ returns-3 c =
     let read = c .before .before in
     let test = read .before in
     let a = test .before .before .before .before .before .args in
-    c .refuse .ensures
-    ∙ ap (λ (n : ℕ). refuse (ltb n (a .roster .centres)) 24 0) (read .centre-at .ensures)
-    ∙ withdraw-by (a .which) (a .states .now) (a .roster) (a .listed) true (good (test .before .before)) (lt-ltb (a .which) (a .roster .count) (test .if2 .left))
+    rw (c .refuse .ensures, read .centre-at .ensures)
+    (withdraw-by (a .which) (a .states .now) (a .roster) (a .listed) true (good (test .before .before)) (lt-ltb (a .which) (a .roster .count) (test .if2 .left)))
 
 pub withdraw-refusal-spec : {M : Type 1} → statement M
 withdraw-refusal-spec =

@@ -14,9 +14,7 @@ use Rattle.files_summary.proofs.changes.withdraw_state.Tie as tie
 -- The number is that of the refusal.
 told : (c : tie.After-withdraw-refusal) → let a = c .before .before .before .before .args in
     c .withdraw-refusal .result ≡ withdrawRefusal (a .which) (a .states .now) (a .roster) (oneEach (a .each) (a .long) (a .roster .centres))
-told c =
-    let a = c .before .before .before .before .args in
-    c .withdraw-refusal .ensures ∙ ap (withdrawRefusal (a .which) (a .states .now) (a .roster)) (c .before .before .one-each .ensures)
+told c = rw (c .withdraw-refusal .ensures, c .before .before .one-each .ensures)
 
 returns : tie.Need-returns
 returns c =

@@ -1,11 +1,8 @@
 -- What is gathered, shown, is the entry.
-use mathlib.Core.Path.{sym, ap, subst, _∙_}
-use Prim.Native.Nat.{ℕ, _*_, _≤_}
 use native.Mathlib.Omega.{arith}
 use borrow.Author.Needs.{needs}
-use lib.ListN.{length}
 use Rattle.files_records.specs.Records.{recordsOf}
-use Rattle.files_summary.specs.Entries.{stateWidth, noTally, gathered, shown}
+use Rattle.files_summary.specs.Entries.{stateWidth}
 use Rattle.files_summary.proofs.EntryLaws.{shown-gathered, centre-inside, epoch-inside}
 use Rattle.files_summary.proofs.entries.entry_of.Statement.{statement}
 use Rattle.files_summary.proofs.entries.entry_of.Tie as tie
@@ -18,7 +15,7 @@ gather-requires c κs =
       omega (arith, c .before .column-at .ensures .0, wide, centre-inside (a .edition)),
       omega (arith, c .column-at2 .ensures .0, wide, epoch-inside (a .edition)),
       s .pre .0,
-      subst (λ (w : ℕ). a .count * w ≤ length (a .states .now)) (sym wide) (s .pre .1),
+      rw wide (s .pre .1),
     )
 
 returns : tie.Need-returns
@@ -26,10 +23,8 @@ returns c =
     let at = c .before .before in
     let wide = at .before .before .width .ensures .0 in
     let a = at .before .before .before .before .args in
-    c .shown .ensures
-    ∙ ap shown (c .before .gather .ensures
-    ∙ λ i. gathered (at .before .column-at .ensures .0 i) (at .column-at2 .ensures .0 i) (a .centre) noTally (recordsOf (wide i) (a .states .now) (a .count)))
-    ∙ shown-gathered (a .edition) (a .centre) (recordsOf (stateWidth (a .edition)) (a .states .now) (a .count))
+    rw (c .shown .ensures, c .before .gather .ensures, at .before .column-at .ensures .0, at .column-at2 .ensures .0, wide)
+    (shown-gathered (a .edition) (a .centre) (recordsOf (stateWidth (a .edition)) (a .states .now) (a .count)))
 
 pub entry-of-spec : {M : Type 1} → statement M
 entry-of-spec =

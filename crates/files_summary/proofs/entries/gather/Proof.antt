@@ -34,11 +34,7 @@ module _ (states : List ℕ) (wide its epoch count centre : ℕ) where
         few = omega (arith, inv .few);
         few-numbers = omega (arith, inv .few, inv .few-numbers, grow .0, s, p);
         few-nans = omega (arith, inv .few, inv .few-nans, grow .1, z, p);
-        same =
-            ap (λ (t : Tally). from-state wide its epoch centre states count t (count - (left - 1))) e
-            ∙ ap (from-state wide its epoch centre states count (withState tally centre number word)) (sym n)
-            ∙ sym (gather-step wide its epoch centre states count tally k (omega (arith, p, inv .few)) c d)
-            ∙ inv .same;
+        same = rw (e, ← n) (sym (gather-step wide its epoch centre states count tally k (omega (arith, p, inv .few)) c d) ∙ inv .same);
       }
 
 abbrev Inv-loop : tie.InvT-loop

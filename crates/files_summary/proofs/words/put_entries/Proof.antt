@@ -1,6 +1,6 @@
 -- The first words of the list are those of the centres done, in order; in the end all are.
 use mathlib.Core.Path.{_≡_, refl, sym, ap, _∙_}
-use mathlib.Core.List.{List, _++_}
+use mathlib.Core.List.{List}
 use Prim.Native.Nat.{ℕ, suc, _-_, _*_, _<_, _≤_}
 use native.Mathlib.Omega.{arith}
 use borrow.Author.Needs.{needs}
@@ -33,14 +33,7 @@ module _ (edition : Edition) (states : List (List ℕ)) (centres : ℕ) where
       record {
         few = omega arith;
         size = size ∙ inv .size;
-        same =
-            ap (λ (k : ℕ). take (k * entryWidth) next) more
-            ∙ ap (take (suc c * entryWidth)) put-it
-            ∙ front-put entryWidth list c (entryWords entry) refl (omega (arith, inv .size))
-            ∙ ap (λ (ws : List ℕ). ws ++ entryWords entry) (inv .same)
-            ∙ ap (λ (s : Summary). asWords (entriesOf edition states c) ++ entryWords s) e
-            ∙ sym (one-more edition states c)
-            ∙ ap (λ (k : ℕ). asWords (entriesOf edition states k)) (sym more);
+        same = rw (more, put-it, front-put entryWidth list c (entryWords entry) refl (omega (arith, inv .size)), inv .same, e, one-more edition states c);
       }
 
   in-the-end : (list : List ℕ) (left : ℕ) → left ≤ 0 → AllBut list left → list ≡ asWords (entriesOf edition states centres)

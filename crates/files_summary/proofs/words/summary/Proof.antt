@@ -1,6 +1,5 @@
 -- Refused, the list stays; else its entries are those of all centres.
-use mathlib.Core.Path.{_≡_, sym, ap, _∙_}
-use mathlib.Core.Bool.{Bool}
+use mathlib.Core.Path.{_≡_, sym, _∙_}
 use mathlib.Core.List.{List}
 use Prim.Native.Nat.{ℕ, _*_}
 use borrow.Author.Needs.{needs}
@@ -8,7 +7,7 @@ use borrow.Author.Tests.{eqb-true}
 use lib.ListN.{length}
 use Rattle.files_formats.specs.Rows.{entryWidth}
 use Rattle.files_summary.specs.declared.entries.Roster.{Roster}
-use Rattle.files_summary.specs.Changes.{lentRefusal, entriesIn, asWords, summaryRefusal, summaryList}
+use Rattle.files_summary.specs.Changes.{entriesIn, asWords, summaryRefusal, summaryList}
 use Rattle.files_summary.proofs.RefusalLaws.{lent-well, has-room}
 use Rattle.files_summary.proofs.ChangeLaws.{if-refused, if-made}
 use Rattle.files_summary.proofs.words.summary.Statement.{statement}
@@ -36,9 +35,7 @@ module _ (run : List ℕ) (roster : Roster) (list : List ℕ) {number : ℕ} (e 
 
 -- The number is that of the refusal.
 told : (c : tie.After-lent-refusal) → let a = c .before .before .before .before .args in c .lent-refusal .result ≡ summaryRefusal (a .states .now) (a .roster) (a .list .now)
-told c =
-    let a = c .before .before .before .before .args in
-    c .lent-refusal .ensures ∙ ap (λ (l : Bool). lentRefusal (length (a .states .now)) (a .roster) l 0) (c .before .one-each .ensures)
+told c = rw (c .lent-refusal .ensures, c .before .one-each .ensures)
 
 returns : tie.Need-returns
 returns c =

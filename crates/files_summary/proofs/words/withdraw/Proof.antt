@@ -1,16 +1,12 @@
 -- The update by value, then its entry.
-use mathlib.Core.Path.{ap, _∙_}
 use borrow.Author.Needs.{needs}
-use Rattle.files_summary.specs.Changes.{settledBy, putEntry}
 use Rattle.files_summary.proofs.words.withdraw.Statement.{statement}
 use Rattle.files_summary.proofs.words.withdraw.Tie as tie
 
 returns : tie.Need-returns
 returns c =
-    let stored = c .before .before in
-    let made = stored .before .before .before .before in
-    let e = made .withdraw-state .ensures in
-    (e .0, (e .1, stored .settle .ensures ∙ ap (settledBy putEntry (made .before .before .before .before .args .list .now)) (e .0)))
+    let e = c .before .before .before .before .before .before .withdraw-state .ensures in
+    (e .0, (e .1, rw (← (e .0)) (c .before .before .settle .ensures)))
 
 pub withdraw-spec : {M : Type 1} → statement M
 withdraw-spec =

@@ -5,11 +5,8 @@ use Rattle.search_rule.proofs.Turns.{place-above}
 use Rattle.search.proofs.turn.tried.Statement.{statement}
 use Rattle.search.proofs.turn.tried.Tie as tie
 
-returns : tie.Need-returns
-unfolding counted
-returns c = simp (c .before .try-inner .ensures, c .before .before .chosen-place .ensures) at (c .moved-by .ensures)
-
 pub tried-spec : {M : Type 1} → statement M
+unfolding counted
 tried-spec =
     tie.close
     (tie.spec
@@ -17,4 +14,4 @@ tried-spec =
     (λ c κs. let a = c .before .args in rw (c .chosen-place .ensures) (place-above (a .pair) (a .offered) (c .before .pre .0)))
     (λ c. search needs)
     (λ c κs. search needs)
-    returns)
+    (λ c. simp (c .before .try-inner .ensures, c .before .before .chosen-place .ensures) at (c .moved-by .ensures)))

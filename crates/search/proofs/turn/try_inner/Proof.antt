@@ -14,21 +14,16 @@ returns c = simp (ne-eqb (c .before .before .args .place) 0 (λ e. omega (arith,
 
 returns-2 : tie.Need-returns-2
 returns-2 c =
-    let start = c .before .before .before .before .before .before .before .before in
-    let a = start .args in
-    let psi = c .before .before .before .before .before .before .anomaly-at in
-    let f = c .before .first-sums in
+    let psi = c .before .before .before .before .before .before in
     let finite = sym (c .before .before .before .is-finite .ensures) ∙ c .before .before .if2 .taken in
-    finite-point (a .initial) (a .tau) (psi .result) (f .result) finite (f .ensures) (c .point-of .ensures)
-    ∙ ap (evaluatedAt (a .initial) (a .tau)) (psi .ensures) ∙ above-zero (a .initial) (a .tau) (a .place) (start .pre)
+    finite-point _ _ _ _ finite (c .before .first-sums .ensures) (c .point-of .ensures)
+    ∙ ap (evaluatedAt _ _) (psi .anomaly-at .ensures) ∙ above-zero _ _ _ (psi .before .before .pre)
 
 returns-3 : tie.Need-returns-3
 returns-3 c =
-    let start = c .before .before .before .before .before .before .before in
-    let a = start .args in
-    let psi = c .before .before .before .before .before .anomaly-at in
-    no-point (a .initial) (a .tau) (psi .result) (sym (c .before .before .is-finite .ensures) ∙ c .before .if2 .left) (c .unevaluated-as2 .ensures)
-    ∙ ap (evaluatedAt (a .initial) (a .tau)) (psi .ensures) ∙ above-zero (a .initial) (a .tau) (a .place) (start .pre)
+    let psi = c .before .before .before .before .before in
+    no-point _ _ _ (sym (c .before .before .is-finite .ensures) ∙ c .before .if2 .left) (c .unevaluated-as2 .ensures)
+    ∙ ap (evaluatedAt _ _) (psi .anomaly-at .ensures) ∙ above-zero _ _ _ (psi .before .before .pre)
 
 pub try-inner-spec : {M : Type 1} → statement M
 try-inner-spec =

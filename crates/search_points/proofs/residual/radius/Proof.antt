@@ -4,9 +4,6 @@ use Rattle.search_points.specs.Residual.{radiusOf}
 use Rattle.search_points.proofs.residual.radius.Statement.{statement}
 use Rattle.search_points.proofs.residual.radius.Tie as tie
 
-returns : tie.Need-returns
-unfolding radiusOf
-returns c = refl
-
 pub radius-spec : {M : Type 1} → statement M
-radius-spec = tie.close (tie.spec returns)
+unfolding radiusOf
+radius-spec = tie.close (tie.spec (λ c. refl))

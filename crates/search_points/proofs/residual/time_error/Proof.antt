@@ -4,9 +4,6 @@ use Rattle.search_points.specs.Residual.{timeErrorOf}
 use Rattle.search_points.proofs.residual.time_error.Statement.{statement}
 use Rattle.search_points.proofs.residual.time_error.Tie as tie
 
-returns : tie.Need-returns
-unfolding timeErrorOf
-returns c = refl
-
 pub time-error-spec : {M : Type 1} → statement M
-time-error-spec = tie.close (tie.spec returns)
+unfolding timeErrorOf
+time-error-spec = tie.close (tie.spec (λ c. refl))

@@ -10,10 +10,6 @@ use Rattle.search_points.proofs.Points.{signed-word, sign-bound, signed
 use Rattle.search_points.proofs.trial.anomaly_at.Statement.{statement}
 use Rattle.search_points.proofs.trial.anomaly_at.Tie as tie
 
-returns : tie.Need-returns
-unfolding anomalyAt div ofBits
-returns c = simp (le-leb _ _ (c .if1 .taken))
-
 returns-2 : tie.Need-returns-2
 unfolding anomalyAt
 returns-2 c =
@@ -21,10 +17,11 @@ returns-2 c =
     simp (lt-leb _ _ (c .before .if1 .left), c .sign-of .ensures, signed-word (lt (a .tau .0) n0) (a .place) (omega arith))
 
 pub anomaly-at-spec : {M : Type 1} → statement M
+unfolding anomalyAt div ofBits
 anomaly-at-spec =
     tie.close
     (tie.spec
-    returns
+    (λ c. simp (le-leb _ _ (c .if1 .taken)))
     (λ c κs. search needs)
     (λ c. let a = c .before .before .args in omega (arith, sign-bound (lt (a .tau .0) n0), c .sign-of .ensures))
     (λ c. let a = c .before .before .args in rw (c .sign-of .ensures) (no-nan-bits _ (signed-field (lt (a .tau .0) n0) (a .place) (omega arith))))

@@ -11,11 +11,8 @@ returns c =
     simp (sym (c .before .before .before .before .is-finite .ensures) ∙ c .before .before .before .if1 .taken)
     (simp (c .before .sums .ensures, c .before .before .coefficients .ensures) at (c .point-of .ensures))
 
-returns-2 : tie.Need-returns-2
-unfolding evaluatedAt
-returns-2 c = simp (sym (c .before .before .is-finite .ensures) ∙ c .before .if1 .left) (c .unevaluated-as .ensures)
-
 pub evaluated-spec : {M : Type 1} → statement M
+unfolding evaluatedAt
 evaluated-spec =
     tie.close
     (tie.spec
@@ -25,4 +22,4 @@ evaluated-spec =
     (λ c κs. search needs)
     returns
     (λ c κs. search needs)
-    returns-2)
+    (λ c. simp (sym (c .before .before .is-finite .ensures) ∙ c .before .if1 .left) (c .unevaluated-as .ensures)))

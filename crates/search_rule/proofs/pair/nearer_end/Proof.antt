@@ -4,19 +4,12 @@ use Rattle.search_rule.specs.Nearer.{nearerEnd}
 use Rattle.search_rule.proofs.pair.nearer_end.Statement.{statement}
 use Rattle.search_rule.proofs.pair.nearer_end.Tie as tie
 
-returns : tie.Need-returns
-unfolding nearerEnd
-returns c = simp (← c .before .before .magnitude-of .ensures, ← c .before .magnitude-of2 .ensures, c .if1 .taken)
-
-returns-2 : tie.Need-returns-2
-unfolding nearerEnd
-returns-2 c = simp (← c .before .before .magnitude-of .ensures, ← c .before .magnitude-of2 .ensures, c .if1 .left)
-
 pub nearer-end-spec : {M : Type 1} → statement M
+unfolding nearerEnd
 nearer-end-spec =
     tie.close
     (tie.spec
     (λ c κs. search needs)
     (λ c κs. search needs)
-    returns
-    returns-2)
+    (λ c. simp (← c .before .before .magnitude-of .ensures, ← c .before .magnitude-of2 .ensures, c .if1 .taken))
+    (λ c. simp (← c .before .before .magnitude-of .ensures, ← c .before .magnitude-of2 .ensures, c .if1 .left)))
