@@ -1,4 +1,6 @@
 // Layer 1: the words of doubles, told apart by their exponent field, runs of them, and the square root.
+#![tactic(auto)]
+
 pub mod root;
 pub mod runs;
 pub mod words;

@@ -6,21 +6,21 @@ ghost use Rattle.bits.specs.Root.{NearestRoot, RootAnswer, root_refusal, root_of
 use super::words::{FIELD, SIGN};
 
 // A word's root: refusal 9 or 0, and the root's word, +0 where it is refused.
-#[derive(Drop)]
+#[derive(Clone, Copy)]
 pub struct Root {
     pub refusal: u64,
     pub word: u64,
 }
 
 // The same for a double as a number.
-#[derive(Drop)]
+#[derive(Clone, Copy)]
 pub struct RootFigure {
     pub refusal: u64,
     pub figure: f64,
 }
 
 // A number above zero as `digits` times a power of two, with 53 digits.
-#[derive(Drop)]
+#[derive(Clone, Copy)]
 struct Scaled {
     digits: u64,
     power: u64,
@@ -28,7 +28,7 @@ struct Scaled {
 
 // What is known of the root of m * 2^54 by its first digits: `twice` is twice the root so far, q, and what q^2 leaves of m * 2^54 is `left` times the next
 // digit's weight.
-#[derive(Drop)]
+#[derive(Clone, Copy)]
 struct Known {
     left: u64,
     twice: u64,

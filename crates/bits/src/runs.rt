@@ -5,7 +5,7 @@ ghost use Rattle.bits.specs.Runs.{is_sought, first_of, has, copied, same_words};
 use super::words::{SIGN, is_finite_word};
 
 // What a run is looked through for: a zero, of either sign, or a double that is not finite.
-#[derive(Drop)]
+#[derive(Clone, Copy)]
 pub enum Sought {
     Zero,
     NotFinite,

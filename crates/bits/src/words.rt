@@ -14,7 +14,7 @@ pub const FIELD: u64 = 0x0010_0000_0000_0000;
 pub const INFINITY: u64 = 0x7ff0_0000_0000_0000;
 
 // What the exponent field says of a double.
-#[derive(Drop)]
+#[derive(Clone, Copy)]
 pub enum Kind {
     ZeroOrSubnormal,
     Normal,

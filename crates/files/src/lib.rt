@@ -1,4 +1,6 @@
 // Layer 5: the writer of an element file: judges three runs of words, then writes them as a file.
+#![tactic(auto)]
+
 ghost use Rattle.std.specs.Prelude.{◌≡◌, ◌+◌, ◌*◌, ◌≤◌, length, ◌∷◌};
 ghost use Rattle.files_words.specs.Bytes.{put, as_bytes};
 ghost use Rattle.files_checks.specs.Checks.{◌⟫◌};
@@ -13,7 +15,7 @@ use files_reader::{Reading, read_by};
 use files_words::{put_word, put_words};
 
 // What the writer answers: the length of the file that it wrote, or a refusal, and then it wrote nothing.
-#[derive(Drop)]
+#[derive(Clone, Copy)]
 pub enum Writing {
     Length(usize),
     Refused { number: u64, place: usize },

@@ -1,4 +1,6 @@
 // Layer 5: a file of another station's rows, and a verdict for each (document 02, T-06).
+#![tactic(auto)]
+
 ghost use Rattle.std.specs.Prelude.{◌≡◌, suc, ◌≤◌, ◌<◌, length};
 ghost use Rattle.files_formats.specs.Rows.{checked_width, most_checked, checked_place};
 ghost use Rattle.files_check.specs.RowsFile.{
@@ -21,7 +23,7 @@ use files_formats::rows::{
 use files_words::word_at;
 
 // What a file of rows is answered with: a refusal's number or 0, and the place of the refusal or the rows.
-#[derive(Drop)]
+#[derive(Clone, Copy)]
 pub struct Judged {
     pub number: u64,
     pub place_or_rows: usize,

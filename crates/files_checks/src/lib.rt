@@ -1,4 +1,6 @@
 // Layer 5: what a check of a file finds; the check of a count, of the words behind it and of the file's end.
+#![tactic(auto)]
+
 ghost use Rattle.std.specs.Prelude.{◌≡◌, ◌+◌, ◌*◌, ◌^◌, ◌<◌, ◌≤◌, length};
 ghost use Rattle.files_checks.specs.Checks.{
   need,
@@ -13,7 +15,7 @@ ghost use Rattle.files_checks.specs.Checks.{
 use files_words::{is_whole, word_at};
 
 // What a check finds: nothing wrong, or a refusal's number with its place.
-#[derive(Drop)]
+#[derive(Clone, Copy)]
 pub enum Check {
     Sound,
     Fault { number: u64, place: usize },

@@ -1,4 +1,6 @@
 // Layer 5: two result files compared, figure by figure, in last places (document 02, T-07).
+#![tactic(auto)]
+
 ghost use Rattle.std.specs.Prelude.{◌≡◌, ◌+◌, ◌*◌, ◌<◌, ◌≤◌, length};
 ghost use Rattle.files_words.specs.Bytes.{put};
 ghost use Rattle.files_formats.specs.Rows.{result_width, most_results, result_place, result_figures, told_width};

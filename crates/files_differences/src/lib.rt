@@ -1,4 +1,6 @@
 // Layer 5: what a comparison says of two figures, two rows and two result files: distances in last places, and the words of each case (document 02, T-07).
+#![tactic(auto)]
+
 pub mod distance;
 pub mod told;
 

@@ -19,7 +19,7 @@ use bits::words::is_finite_word;
 use files_formats::rows::RESULT_WIDTH;
 
 // What two rows are: answered on both sides, refused on one alone, or on both, with the same number or different ones.
-#[derive(Drop)]
+#[derive(Clone, Copy)]
 pub enum RowKind {
     Answered,
     LeftRefused,
@@ -29,7 +29,7 @@ pub enum RowKind {
 }
 
 // What a comparison says of a figure: how many last places it moved; where a side is not finite, whether the bits are the same; nothing where a row is refused.
-#[derive(Drop)]
+#[derive(Clone, Copy)]
 pub enum Figure {
     Distance(u64),
     EqualBits,
@@ -38,7 +38,7 @@ pub enum Figure {
 }
 
 // The first largest distance, and where it is, if any figure has a distance.
-#[derive(Drop)]
+#[derive(Clone, Copy)]
 pub enum Largest {
     Nowhere,
     At {
@@ -49,7 +49,7 @@ pub enum Largest {
 }
 
 // The file that is refused, if it is one of the two.
-#[derive(Drop)]
+#[derive(Clone, Copy)]
 pub enum Side {
     Neither,
     Left,
@@ -57,7 +57,7 @@ pub enum Side {
 }
 
 // The answer for two files.
-#[derive(Drop)]
+#[derive(Clone, Copy)]
 pub enum Comparison {
     Compared {
         count: usize,

@@ -4,7 +4,7 @@ ghost use Rattle.bits.specs.Choice.{pick};
 ghost use Rattle.files_formats.specs.Kinds.{asks, fault_of};
 
 // A figure, of any bits; the number of a record of another section.
-#[derive(Drop)]
+#[derive(Clone, Copy)]
 pub enum Kind {
     Figure,
     Number,

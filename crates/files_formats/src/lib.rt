@@ -1,4 +1,6 @@
 // Layer 5: what a word of a file may be; the formats as tables; where everything stands in an element file; and the check of a section by its table.
+#![tactic(auto)]
+
 mod elements;
 mod files;
 mod kinds;

@@ -5,7 +5,7 @@ ghost use Rattle.files_formats.specs.Shapes.{count_of, below_of, span_of, place_
 
 use crate::elements::{Edition, Section, width};
 
-#[derive(Drop)]
+#[derive(Clone, Copy)]
 pub struct Shape {
     pub edition: Edition,
     pub centres: u16,

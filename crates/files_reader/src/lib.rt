@@ -1,4 +1,6 @@
 // Layer 5: the reader of an element file: walks it forward and answers its shape, or the first fault.
+#![tactic(auto)]
+
 ghost use Rattle.std.specs.Prelude.{◌≡◌};
 ghost use Rattle.files_formats.specs.Shapes.{shape_of, section_check};
 ghost use Rattle.files_reader.specs.Reader.{edition_in, first_check, grown, reading_by, next_reading, end_reading, reading_of};
@@ -8,7 +10,7 @@ use files_formats::{Section, Shape, check_section, edition_of, is_edition};
 use files_words::word_at;
 
 // What the reader answers: the shape, which says the places and counts of the sections; or a refusal.
-#[derive(Drop)]
+#[derive(Clone, Copy)]
 pub enum Reading {
     Sections(Shape),
     Refused { number: u64, place: usize },

@@ -1,4 +1,6 @@
 // Layer 5: records of any width in a run of words.
+#![tactic(auto)]
+
 ghost use Rattle.std.specs.Prelude.{◌≡◌, suc, ◌*◌, ◌<◌, ◌≤◌, length};
 ghost use Rattle.files_records.specs.Records.{has_record, put_at, record_put, moved_down, withdrawn};
 

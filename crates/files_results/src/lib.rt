@@ -1,4 +1,6 @@
 // Layer 5: from an element file to its result file.
+#![tactic(auto)]
+
 ghost use Rattle.std.specs.Prelude.{◌≡◌, ◌<◌, ◌≤◌, length};
 ghost use Rattle.files_words.specs.Bytes.{as_bytes, put};
 ghost use Rattle.files_formats.specs.Rows.{result_place};
@@ -24,7 +26,7 @@ pub const LONGEST_RESULT: usize = RESULT_COUNT_PLACE
 const SHORT_ROOM: u64 = 26;
 
 // What was written: 0 and the size of the result file in bytes, or 26 and the size that is needed.
-#[derive(Drop)]
+#[derive(Clone, Copy)]
 pub struct Outcome {
     pub number: u64,
     pub size: usize,

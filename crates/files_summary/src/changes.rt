@@ -9,7 +9,7 @@ use files_formats::{Column, Edition, Section, column_at, limit, width};
 use files_records::{move_down, put_record};
 
 // What a change comes to: its refusal or 0, the states in use afterwards, and, with 0, the number and the entry of the centre that changed.
-#[derive(Drop)]
+#[derive(Clone, Copy)]
 pub struct Change {
     pub number: u64,
     pub count: u64,

@@ -10,7 +10,7 @@ use bits::words::{is_nan_word, line_of, word_on};
 use files_formats::{Column, Edition, Section, column_at, width};
 
 // The states in use of a run: their edition, how many they are, and how many centres there are.
-#[derive(Drop)]
+#[derive(Clone, Copy)]
 pub struct Roster {
     pub edition: Edition,
     pub count: u64,
@@ -18,7 +18,7 @@ pub struct Roster {
 }
 
 // A centre's states at a glance: how many have an epoch that is a number, how many a NaN, and the words of the earliest and the latest epoch.
-#[derive(Drop)]
+#[derive(Clone, Copy)]
 pub struct Summary {
     pub states: u64,
     pub nans: u64,
@@ -27,7 +27,7 @@ pub struct Summary {
 }
 
 // What is gathered on the way: the two counts, and the earliest and the latest moment.
-#[derive(Drop)]
+#[derive(Clone, Copy)]
 pub struct Tally {
     pub states: u64,
     pub nans: u64,

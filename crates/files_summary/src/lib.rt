@@ -1,4 +1,6 @@
 // Layer 5: a summary beside the states of a run, an entry for each centre.
+#![tactic(auto)]
+
 mod changes;
 mod entries;
 pub mod lists;

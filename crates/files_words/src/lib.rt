@@ -1,4 +1,6 @@
 // Little-endian 64-bit words in runs of bytes.
+#![tactic(auto)]
+
 ghost use Rattle.std.specs.Prelude.{◌≡◌, ◌+◌, ◌*◌, ◌<◌, ◌≤◌, leb, length, take, drop};
 ghost use Rattle.files_words.specs.Bytes.{number_of, bytes_of, as_bytes, word_at, put};
 

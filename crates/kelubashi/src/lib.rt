@@ -1,5 +1,7 @@
 // The C face: what control programs call. Every number crosses as its 64-bit word and every run as a pointer and a count, so no header can shift a
 // field; the names carry the interface's edition, so a header of another edition does not link.
+#![tactic(auto)]
+
 ghost use Rattle.std.specs.Prelude.{◌≡◌, [], ◌∷◌, length};
 ghost use Rattle.bits.specs.Root.{root_refusal_of, root_word_of};
 ghost use Rattle.states.specs.Call.{orbit_words, answer_words, propagate_of};

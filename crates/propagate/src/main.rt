@@ -6,6 +6,8 @@
 // output. What cannot be read or written is said on standard error, with its name, and no result file
 // is written then: a failed read is not an empty file. A program cannot set an exit status here, so
 // whoever runs it looks at what it wrote: an empty output is never a result file.
+#![tactic(auto)]
+
 ghost use Rattle.std.specs.Prelude.{◌≡◌, List, ◌++◌, ℕ, ◌+◌, ◌<◌, length, take};
 ghost use Rattle.io.specs.Counts.{IsPrefixLen};
 ghost use Rattle.files_reader.specs.Reader.{longest_file};

@@ -1,5 +1,7 @@
 // Layer 3: the anomaly search (document 01, "The search"; document 02, T-01), by its rule (`search_rule`) at its points
 // (`search_points`) and its proposals (`search_proposals`).
+#![tactic(auto)]
+
 ghost use Rattle.std.specs.Prelude.{◌≡◌, ◌<◌, ◌^◌};
 ghost use Rattle.search_points.specs.Trial.{trial_at};
 ghost use Rattle.search_rule.specs.Rule.{outward_step, counted, step_of};

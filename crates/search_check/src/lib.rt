@@ -1,4 +1,6 @@
 // Layer 3: whether a proposed anomaly is one that a search may answer, told by at most two trial points and without a search (document 02, T-06).
+#![tactic(auto)]
+
 ghost use Rattle.std.specs.Prelude.{◌≡◌, ◌^◌, ◌<◌};
 ghost use Rattle.search_points.specs.Trial.{trial_at};
 ghost use Rattle.search_check.specs.Passing.{picks, short_beside, past_beside, short_passes, past_passes, passes};

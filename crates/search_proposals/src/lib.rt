@@ -1,4 +1,6 @@
 // Layer 3: the three proposals for an inner point. Each answers a place, and 0 where it does not fit: place 0 never lies strictly between two places.
+#![tactic(auto)]
+
 ghost use Rattle.std.specs.Prelude.{◌≡◌};
 ghost use Rattle.search_proposals.specs.Proposals.{inside_of, has_sign, offered_at, last_tried, by_radius, by_interval, by_ends, proposed};
 

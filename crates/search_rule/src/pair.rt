@@ -7,14 +7,14 @@ use bits::words::magnitude_of;
 use search_points::{Sort, Terms, Trial};
 
 // A tried place with its time error (s).
-#[derive(Drop)]
+#[derive(Clone, Copy)]
 pub struct End {
     pub place: u64,
     pub error: f64,
 }
 
 // A short end and a past end; which of them was tried last, and what the radius there is made of.
-#[derive(Drop)]
+#[derive(Clone, Copy)]
 pub struct Pair {
     pub short: End,
     pub past: End,
@@ -23,7 +23,7 @@ pub struct Pair {
 }
 
 // Where the search stands, with the points used so far.
-#[derive(Drop)]
+#[derive(Clone, Copy)]
 pub enum Next {
     Between(Pair, u64),
     Exact(u64, u64),
@@ -32,7 +32,7 @@ pub enum Next {
 }
 
 // What an outward point gives: on to the next, from a short end, or a stop.
-#[derive(Drop)]
+#[derive(Clone, Copy)]
 pub enum Step {
     On(End),
     Stop(Next),

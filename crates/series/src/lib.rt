@@ -1,5 +1,7 @@
 // Layer 2: the coefficients and sums of an anomaly (document 01, "Initial figures and series").
 // alpha is in km^2/s^2 and psi in s/km, so L and c0 to c5 are plain numbers.
+#![tactic(auto)]
+
 ghost use Rattle.std.specs.Prelude.{◌≡◌, ltb};
 ghost use Rattle.bits.specs.Choice.{pick};
 ghost use Rattle.series.specs.Series.{first_l, beyond_one, reduced, c4_of, c5_of, at_reduced, doublings, quotients_of, coefficients_of, sums_of};
@@ -9,14 +11,14 @@ pub mod figures;
 pub use figures::{Anomaly, Coefficients, FirstSums, Seconds, Sums};
 
 // L after its divisions by 4, and how many there were.
-#[derive(Drop)]
+#[derive(Clone, Copy)]
 struct Reduced {
     l: f64,
     m: u64,
 }
 
 // The two coefficients that the doublings change.
-#[derive(Drop)]
+#[derive(Clone, Copy)]
 struct FirstTwo {
     c0: f64,
     c1: f64,

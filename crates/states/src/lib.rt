@@ -1,4 +1,6 @@
 // Layer 4: the propagator's two calls, from eight words to an answer, without partials and with them (document 01, "Refusals in order of checking").
+#![tactic(auto)]
+
 mod answer;
 mod call;
 pub mod figures;

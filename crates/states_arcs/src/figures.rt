@@ -4,7 +4,7 @@ use states_revolutions::Interval;
 use states_start::{Start, State, Vector};
 
 // f (a number), g (s), f' (1/s) and g' (a number): they take a start to its end.
-#[derive(Drop)]
+#[derive(Clone, Copy)]
 pub struct Factors {
     pub f: f64,
     pub g: f64,
@@ -14,7 +14,7 @@ pub struct Factors {
 
 // The way from a start to its end: the start, the interval, whole and as it was searched, the found anomaly with its series and its radius r (km), the factors,
 // and the state at the end. The results and the partials are made of it.
-#[derive(Drop)]
+#[derive(Clone, Copy)]
 pub struct Arc {
     pub start: Start,
     pub interval: Interval,
@@ -27,7 +27,7 @@ pub struct Arc {
 }
 
 // The figures of an answer: thirteen doubles.
-#[derive(Drop)]
+#[derive(Clone, Copy)]
 pub struct Results {
     pub end: State,
     pub end_acceleration: Vector,
@@ -36,7 +36,7 @@ pub struct Results {
 }
 
 // The results of an arc, or the number of the refusal.
-#[derive(Drop)]
+#[derive(Clone, Copy)]
 pub enum Ended {
     Results(Results),
     Refused(u64),

@@ -1,5 +1,7 @@
 // Layer 4: whether a row of another station is accepted: its eight input words, its anomaly and its nine end figures, held to the
 // rules without a search (document 02, T-06).
+#![tactic(auto)]
+
 ghost use Rattle.std.specs.Prelude.{◌≡◌};
 ghost use Rattle.states_check.specs.Row.{ends_with, accepts_at, accepts};
 

@@ -1,4 +1,6 @@
 // Layer 4, the partials of an arc (document 01, "Results and partials", from U on, with document 02, T-04, and the partials' part of refusals 1 and 8).
+#![tactic(auto)]
+
 ghost use Rattle.std.specs.Prelude.{◌≡◌};
 ghost use Rattle.states_partials.specs.Partials.{partials_refusal, lent_after};
 

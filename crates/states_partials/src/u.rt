@@ -11,11 +11,11 @@ use states_arcs::Arc;
 use states_revolutions::Off;
 
 // The whole anomaly (s/km), revolutions included. The one that was found is of type `Anomaly`: neither stands for the other.
-#[derive(Drop)]
+#[derive(Clone, Copy)]
 pub struct WholeAnomaly(pub f64);
 
 // The whole anomaly, and s3, s4 and s5 there, in s/km and its third, fourth and fifth powers.
-#[derive(Drop)]
+#[derive(Clone, Copy)]
 pub struct WholeSums {
     pub psi: WholeAnomaly,
     pub s3: f64,

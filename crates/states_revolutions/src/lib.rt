@@ -1,4 +1,6 @@
 // Layer 4, whole revolutions: the period of an orbit, and an interval without the revolutions that come off before it is searched (document 02, T-04).
+#![tactic(auto)]
+
 pub mod figures;
 mod floor;
 mod revolutions;

@@ -3,7 +3,7 @@ use search_points::Initial;
 use states_revolutions::{Course, WholeInterval};
 
 // A position (km), a velocity (km/s) or an acceleration (km/s^2).
-#[derive(Drop)]
+#[derive(Clone, Copy)]
 pub struct Vector {
     pub x: f64,
     pub y: f64,
@@ -11,35 +11,35 @@ pub struct Vector {
 }
 
 // Where a body is and how it moves.
-#[derive(Drop)]
+#[derive(Clone, Copy)]
 pub struct State {
     pub position: Vector,
     pub velocity: Vector,
 }
 
 // Seven of the eight doubles that come in: mu (km^3/s^2) and the state at the start. The interval stands beside it.
-#[derive(Drop)]
+#[derive(Clone, Copy)]
 pub struct Orbit {
     pub mu: f64,
     pub state: State,
 }
 
 // What eight words hold: an orbit and the whole interval; or the number of the refusal, which tells the first that is not finite.
-#[derive(Drop)]
+#[derive(Clone, Copy)]
 pub enum Read {
     Orbit(Orbit, WholeInterval),
     Refused(u64),
 }
 
 // What every interval of one orbit begins with: its state, and its initial figures, mu among them.
-#[derive(Drop)]
+#[derive(Clone, Copy)]
 pub struct Start {
     pub state: State,
     pub initial: Initial,
 }
 
 // The start of an orbit, and its course, with the period if it has one; or the number of the refusal.
-#[derive(Drop)]
+#[derive(Clone, Copy)]
 pub enum Begun {
     Start(Start, Course),
     Refused(u64),

@@ -3,7 +3,7 @@ ghost use Rattle.std.specs.Prelude.{◌≡◌};
 ghost use Rattle.streams.specs.Calls.{call_of, Part, after_signal, after_of};
 
 // What one call has done.
-#[derive(Drop)]
+#[derive(Clone, Copy)]
 pub enum Call {
     Moved(usize),
     Nothing,
@@ -13,7 +13,7 @@ pub enum Call {
 
 // What to do after a call: go on, with so many bytes left to move and patience for so many signals; stop, because the other side has no more to give or to
 // take; give up.
-#[derive(Drop)]
+#[derive(Clone, Copy)]
 pub enum Then {
     On { left: usize, patience: u64 },
     Over,
@@ -21,7 +21,7 @@ pub enum Then {
 }
 
 // What was moved: so many bytes, or a call failed, and errno says why.
-#[derive(Drop)]
+#[derive(Clone, Copy)]
 pub enum Taken {
     Bytes(usize),
     Failed,

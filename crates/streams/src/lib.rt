@@ -2,6 +2,8 @@
 //
 // A call may move fewer bytes than it was asked to, a signal may come before it moves any, and a read
 // that fails is not the end of the input: io::read_full cannot tell those two apart.
+#![tactic(auto)]
+
 mod calls;
 mod input;
 mod output;

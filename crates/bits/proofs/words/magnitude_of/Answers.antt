@@ -10,8 +10,7 @@ use lib.Ieee.Bits.{of_bits-to_bits, to_bits-lt, nan_bits_is}
 use lib.Ieee.Compare.{differs_from_itself, nan_differs}
 use Rattle.bits.specs.Arithmetic.{magnitude}
 use Rattle.bits.proofs.Doubles.{no_nan}
-use Rattle.bits.proofs.words.magnitude_of.Statement.{statement}
-use Rattle.bits.proofs.words.magnitude_of.Tie as tie
+use Rattle.bits.proofs.words.magnitude_of.Goals as goal
 
 word : Float → ℕ
 word = to_bits binary64
@@ -52,11 +51,14 @@ module _ (x : Float) (f : T (fits binary64 x)) (h : ne x x ≡ false) where
   readable : T (not (nan_bits binary64 (to_bits binary64 x % 2 ^ 63)))
   readable = subst (λ (b : Bool). T (not b)) (sym (nan_bits_is binary64 (to_bits binary64 x % 2 ^ 63) ∙ ap is_nan back ∙ magnitude-not-nan x h)) tt
 
-pub magnitude-of-spec : {M : Type 1} → statement M
-magnitude-of-spec =
-    tie.close
-    (tie.spec
-    (λ c. let e = differs_from_itself _ (subst T (sym c.if1.true) tt) in subst (λ (y : Float). y ≡ magnitude y) (sym e) refl)
-    (λ c. no_nan _ c.if1.false)
-    (λ c. readable _ (subst T (sym c.before.well-formed.0.1) tt) c.if1.false)
-    (λ c. back _ (subst T (sym c.before.well-formed.0.1) tt) c.if1.false))
+pub returns-then-x : goal.returns-then-x
+returns-then-x c = let e = differs_from_itself _ (subst T (sym c.if-x.true) tt) in subst (λ (y : Float). y ≡ magnitude y) (sym e) refl
+
+pub float_to_bits-result : goal.float_to_bits-result
+float_to_bits-result c = no_nan _ c.if-x.false
+
+pub float_from_bits-result : goal.float_from_bits-result
+float_from_bits-result c = readable _ (subst T (sym c.well_formed.0.1) tt) c.if-x.false
+
+pub returns : goal.returns
+returns c = back _ (subst T (sym c.well_formed.0.1) tt) c.if-x.false

@@ -3,14 +3,12 @@ use Prim.Native.Nat.{ℕ, ◌%◌, ◌^◌, ◌<◌}
 use native.Mathlib.Omega.{arith}
 use mathlib.Core.Bool.{true}
 use mathlib.Core.Path.{◌≡◌, refl, sym, ◌∙◌}
-use borrow.Author.Rules.{rules}
 use borrow.Author.Tests.{lt-ltb}
 use lib.Ieee.{Float, nan, inf, fin, binary64, is_nan, of_bits, div}
 use lib.Ieee.Bits.{nan_bits_is, nan_bits_above}
 use Rattle.bits.specs.Words.{infinity}
 use Rattle.bits.proofs.Doubles.{no_nan_word}
-use Rattle.bits.proofs.words.double_of.Statement.{statement}
-use Rattle.bits.proofs.words.double_of.Tie as tie
+use Rattle.bits.proofs.words.double_of.Goals as goal
 
 only_nan : (x : Float) → is_nan x ≡ true → nan ≡ x
 unfolding is_nan
@@ -25,10 +23,8 @@ quotient : div binary64 (of_bits binary64 0) (of_bits binary64 0) ≡ nan
 unfolding div of_bits
 quotient = refl
 
-pub double-of-spec : {M : Type 1} → statement M
-double-of-spec =
-    tie.close
-    (tie.spec
-    (λ c. quotient ∙ nan-word c.before.args.word c.if1.true)
-    (λ c. no_nan_word c.before.args.word c.if1.false)
-    (λ c. search rules))
+pub returns-then-word-gt-INFINITY : goal.returns-then-word-gt-INFINITY
+returns-then-word-gt-INFINITY c = quotient ∙ nan-word c.args.word c.if-word-gt-INFINITY.true
+
+pub float_from_bits-result : goal.float_from_bits-result
+float_from_bits-result c = no_nan_word c.args.word c.if-word-gt-INFINITY.false

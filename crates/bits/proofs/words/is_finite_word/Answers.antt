@@ -3,7 +3,6 @@ use mathlib.Core.Path.{◌≡◌, refl, sym, ◌∙◌, ap}
 use mathlib.Core.Bool.{Bool, true, false}
 use Prim.Native.Nat.{ℕ}
 use native.Mathlib.Omega.{arith}
-use borrow.Author.Rules.{rules}
 use borrow.Author.Tests.{eqb-true, le-leb}
 use lib.Dec.{eqb, leb}
 use lib.Ieee.{binary64, of_bits}
@@ -13,8 +12,7 @@ use Rattle.bits.specs.Words.{field_of, kind_of}
 use Rattle.bits.specs.declared.words.Kind.{Kind}
 use Rattle.bits.specs.declared.words.Kind.TheVariants.{ZeroOrSubnormal, Normal, NotFinite}
 use Rattle.bits.proofs.Doubles.{finite_by_field}
-use Rattle.bits.proofs.words.is_finite_word.Statement.{statement}
-use Rattle.bits.proofs.words.is_finite_word.Tie as tie
+use Rattle.bits.proofs.words.is_finite_word.Goals as goal
 
 abbrev finite-kind : Kind → Bool
 finite-kind ZeroOrSubnormal = true
@@ -32,14 +30,11 @@ by_field n = go (eqb n 0) (leb n 2046) (λ e. le-leb n 2046 (omega (arith, eqb-t
 by_kind : (w : ℕ) (k : Kind) → k ≡ kind_of w → finite-kind k ≡ is_finite (of_bits binary64 w)
 by_kind w k e = ap finite-kind e ∙ by_field (field_of w) ∙ sym (finite_by_field w)
 
-pub is-finite-word-spec : {M : Type 1} → statement M
-is-finite-word-spec =
-    tie.close
-    (tie.spec
-    (λ c κs. search rules)
-    (λ c. search rules)
-    (λ c. search rules)
-    (λ c. search rules)
-    (λ c. by_kind _ ZeroOrSubnormal (sym c.enum_told.given.1 ∙ c.before.before.kind-of.ensures))
-    (λ c. by_kind _ Normal (sym c.enum-told2.given.1 ∙ c.before.before.kind-of.ensures))
-    (λ c. by_kind _ NotFinite (sym c.enum-told3.given.1 ∙ c.before.before.kind-of.ensures)))
+pub returns-in-ZeroOrSubnormal : goal.returns-in-ZeroOrSubnormal
+returns-in-ZeroOrSubnormal c = by_kind _ ZeroOrSubnormal (sym c.in-ZeroOrSubnormal.is ∙ c.kind_of.ensures)
+
+pub returns-in-Normal : goal.returns-in-Normal
+returns-in-Normal c = by_kind _ Normal (sym c.in-Normal.is ∙ c.kind_of.ensures)
+
+pub returns-in-NotFinite : goal.returns-in-NotFinite
+returns-in-NotFinite c = by_kind _ NotFinite (sym c.in-NotFinite.is ∙ c.kind_of.ensures)
