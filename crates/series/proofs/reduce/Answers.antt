@@ -1,22 +1,13 @@
--- What is left of 512 divisions, made on L as it is now, ends where all of them, made on the first L, end.
 use mathlib.Core.Path.{◌≡◌, refl, sym, ◌∙◌, ap}
 use mathlib.Core.Bool.{Bool, true, false}
 use Prim.Native.Nat.{ℕ, zero, suc, ◌+◌, ◌-◌, ◌<◌, ◌≤◌}
-use borrow.Author.Rules.{rules}
 use native.Mathlib.Omega.{arith}
 use lib.Ieee.{Float}
 use Rattle.bits.specs.Arithmetic.{◌⊘◌}
 use Rattle.series.specs.Constants.{n4}
-use Rattle.series.specs.Series.{beyond_one, reduced_from, reduced}
+use Rattle.series.specs.Series.{beyond_one, reduced_from}
 use Rattle.series.proofs.Reduction.{stays}
-use Rattle.series.proofs.reduce.Statement.{statement}
-use Rattle.series.proofs.reduce.Tie as tie
-
-abbrev invariant-loop : tie.invariant-loop
-invariant-loop first l₀ m₀ l m = (m ≤ 512) × (reduced_from (512 - m) (beyond_one l) l m ≡ reduced first)
-
-abbrev decreases-loop : tie.decreases-loop
-decreases-loop first l₀ m₀ l m = 512 - m
+use Rattle.series.proofs.reduce.Goals as goal
 
 turn : (most : ℕ) (again : Bool) (l : Float) (m : ℕ) → 0 < most → again ≡ true → reduced_from most again l m ≡ reduced_from (most - 1) (beyond_one (l ⊘ n4)) (l ⊘ n4) (m + 1)
 unfolding reduced_from
@@ -29,26 +20,21 @@ unfolding reduced_from
 spent zero again l m h = refl
 spent (suc k) again l m h = absurd (omega arith)
 
-loop-again : tie.Need-loop-preserved invariant-loop decreases-loop
-loop-again c =
-    let at = c.before.before.before.loop in
+pub loop-m-init : goal.loop-m-init
+loop-m-init c = (omega arith, refl)
+
+pub loop-m-preserved : goal.loop-m-preserved
+loop-m-preserved c =
+    let at = c.loop-m in
     let e : 512 - at.m - 1 ≡ 512 - (at.m + 1) = omega arith in (
       omega arith,
       ap (λ (n : ℕ). reduced_from n (beyond_one (at.l ⊘ n4)) (at.l ⊘ n4) (at.m + 1)) (sym e)
-          ∙ sym (turn (512 - at.m) (beyond_one at.l) at.l at.m (omega arith) (sym c.before.beyond-one.ensures ∙ c.if1.true))
+          ∙ sym (turn (512 - at.m) (beyond_one at.l) at.l at.m (omega arith) (sym c.beyond_one.ensures ∙ c.if-beyond_one.true))
           ∙ at.invariant.1,
     )
 
-pub reduce-spec : {M : Type 1} → statement M
-reduce-spec =
-    tie.close
-    (tie.spec
-    invariant-loop
-    decreases-loop
-    (λ c. (omega arith, refl))
-    (λ c κs. search rules)
-    (λ c. omega arith)
-    (λ c. omega arith)
-    loop-again
-    (λ c. sym (stays _ _ _ _ (sym c.before.beyond-one.ensures ∙ c.if1.false)) ∙ c.before.before.before.loop.invariant.1)
-    (λ c. let at = c.before.loop in sym (spent (512 - at.m) (beyond_one at.l) at.l at.m (omega arith)) ∙ at.invariant.1))
+pub returns-else-beyond_one : goal.returns-else-beyond_one
+returns-else-beyond_one c = sym (stays _ _ _ _ (sym c.beyond_one.ensures ∙ c.if-beyond_one.false)) ∙ c.loop-m.invariant.1
+
+pub returns : goal.returns
+returns c = let at = c.loop-m in sym (spent (512 - at.m) (beyond_one at.l) at.l at.m (omega arith)) ∙ at.invariant.1

@@ -4,8 +4,7 @@ use mathlib.Core.Bool.{Bool, true, false, ◌||◌}
 use lib.Ieee.{Float, nan, inf, fin, lt, neg, of_bits}
 use Rattle.bits.specs.Arithmetic.{n1}
 use Rattle.series.specs.Series.{beyond_one}
-use Rattle.series.proofs.beyond_one.Statement.{statement}
-use Rattle.series.proofs.beyond_one.Tie as tie
+use Rattle.series.proofs.beyond_one.Goals as goal
 
 or-false : (b : Bool) → b || false ≡ b
 or-false true = refl
@@ -25,9 +24,8 @@ above l h = h ∙ simp h at (two-sided l)
 not_above : (l : Float) → lt n1 l ≡ false → lt l (neg n1) ≡ beyond_one l
 not_above l h = simp h at (two-sided l)
 
-pub beyond-one-spec : {M : Type 1} → statement M
-beyond-one-spec =
-    tie.close
-    (tie.spec
-    (λ c. above c.before.args.l c.if1.true)
-    (λ c. not_above c.before.args.l c.if1.false))
+pub returns-then-l : goal.returns-then-l
+returns-then-l c = above c.args.l c.if-l.true
+
+pub returns-else-l : goal.returns-else-l
+returns-else-l c = not_above c.args.l c.if-l.false
