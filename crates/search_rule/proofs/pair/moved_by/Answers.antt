@@ -2,7 +2,6 @@
 use Prim.Native.Nat.{ℕ}
 use mathlib.Core.Path.{◌≡◌, refl, sym, ap, ◌∙◌}
 use mathlib.Core.Bool.{false}
-use borrow.Author.Rules.{rules}
 use Rattle.search_points.specs.declared.figures.Sort.{Sort}
 use Rattle.search_points.specs.declared.figures.Sort.TheVariants.{Short, Past, Exact, Unreadable}
 use Rattle.search_points.specs.declared.figures.Trial.{Trial}
@@ -12,8 +11,7 @@ use Rattle.search_rule.specs.declared.pair.Next.TheVariants as next
 use Rattle.search_rule.specs.declared.pair.Step.{Step}
 use Rattle.search_rule.specs.declared.pair.Step.TheVariants as step
 use Rattle.search_rule.specs.Rule.{pair_of, outward_by, outward_step, moved_by, moved, next_of, step_of}
-use Rattle.search_rule.proofs.pair.moved_by.Statement.{statement}
-use Rattle.search_rule.proofs.pair.moved_by.Tie as tie
+use Rattle.search_rule.proofs.pair.moved_by.Goals as goal
 
 module _ (s : Pair) (t : Trial) (n : ℕ) where
   abbrev taken : Step → Next
@@ -29,22 +27,12 @@ module _ (s : Pair) (t : Trial) (n : ℕ) where
   from : (place : ℕ) {x : Step} → x ≡ step_of n (outward_step s.short place t) → taken x ≡ next_of n (moved s place t)
   from place e = ap taken e ∙ taken_is t.sort place
 
-returns : tie.Need-returns
-returns c =
-    let a = c.before.before.before.before.before.before.args in
-    from a.pair a.t a.points a.place (sym c.before.step.given.1 ∙ c.before.before.before.step_by.ensures)
+pub returns-in-On : goal.returns-in-On
+returns-in-On c =
+    let a = c.args in
+    from a.pair a.t a.points a.place (sym c.in-On.is ∙ c.step_by-step.ensures)
 
-returns-2 : tie.Need-returns-2
-returns-2 c =
-    let a = c.before.before.before.before.before.before.args in
-    from a.pair a.t a.points a.place (sym c.before.step2.given.1 ∙ c.before.before.before.step_by.ensures)
-
-pub moved-by-spec : {M : Type 1} → statement M
-moved-by-spec =
-    tie.close
-    (tie.spec
-    (λ c κs. search rules)
-    (λ c. search rules)
-    (λ c. search rules)
-    returns
-    returns-2)
+pub returns-in-Stop : goal.returns-in-Stop
+returns-in-Stop c =
+    let a = c.args in
+    from a.pair a.t a.points a.place (sym c.in-Stop.is ∙ c.step_by-step.ensures)
