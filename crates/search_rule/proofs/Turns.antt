@@ -4,14 +4,10 @@ use Prim.Native.Nat.{ℕ, zero, suc, ◌+◌, ◌-◌, ◌*◌, ◌^◌, ◌≤�
 use mathlib.Core.Path.{◌≡◌, refl, ap, sym, ◌∙◌, subst}
 use mathlib.Core.Bool.{Bool, true, false}
 use mathlib.Core.List.{List, [], ◌∷◌, ◌++◌}
-use mathlib.Core.Logic.{⊎_elim}
 use native.Mathlib.Omega.{arith}
 use lib.Dec.{eqb}
 use borrow.Author.Tests.{ltb-true, le-ltb, eqb-true, eqb-false}
-use types.Run.{OneOf}
-use denote.Enum.Declared.{tag_of}
 use Rattle.bits.specs.Choice.{pick}
-use Rattle.search_rule.specs.contracts.pair.Next.{the_type}
 use Rattle.search_rule.specs.declared.pair.End.{End}
 use Rattle.search_rule.specs.declared.pair.Pair.{Pair}
 use Rattle.search_rule.specs.declared.pair.Next.{Next}
@@ -64,8 +60,8 @@ goes_on n (on e) f {short} g = let same : e ≡ short = cc in ap (λ (x : End). 
 goes_on n (stop e) f g = absurd (let z : ◌≡◌ {A = ℕ} 0 1 = cc in omega arith)
 
 -- A place that a `_` arm hands on whole is no pair, so nothing follows it.
-pub handed_on : (r : Next) (f : Pair → History) → OneOf (1 ∷ 2 ∷ 3 ∷ []) (tag_of the_type r) → r ≡ after r f
-handed_on (next.Between s n) f h = absurd (⊎_elim (λ (e : 0 ≡ 1). omega arith) (⊎_elim (λ (e : 0 ≡ 2). omega arith) (λ (e : 0 ≡ 3). omega arith)) h)
+pub handed_on : (r : Next) (f : Pair → History) → ((s : Pair) (n : ℕ) → r ≡ next.Between s n → ⊥) → r ≡ after r f
+handed_on (next.Between s n) f h = absurd (h s n refl)
 handed_on (next.Exact p n) f h = refl
 handed_on (next.Unreadable n) f h = refl
 handed_on (next.AllShort n) f h = refl

@@ -32,30 +32,30 @@ returns-then-not-is_wide c =
     let l = c.loop-left in
     let a = c.args in
     stage_narrow (trial_at a.initial a.tau) (proposed a.initial a.tau) (eqb l.offered 0) l.left l.points l.pair
-    (sym c.is_IsWide.ensures ∙ c.if-not-is_wide.true)
+    (sym c.is_wide.ensures ∙ c.if-not-is_wide.true)
     ∙ l.invariant.0
 
 pub tried-next-requires : goal.tried-next-requires
 tried-next-requires c =
-    let w = c.before.before in
-    (sym w.is_IsWide.ensures ∙ c.if-not-is_wide.false, omega (arith, w.loop-left.invariant.1))
+    let w = c in
+    (sym w.is_wide.ensures ∙ c.if-not-is_wide.false, omega (arith, w.loop-left.invariant.1))
 
 pub returns-in_default : goal.returns-in_default
 returns-in_default c =
-    let w = c.before.before.before.before in
+    let w = c in
     let l = w.loop-left in
     let a = w.args in
     let o = c.offer-offered in
     let t = c.tried-next in
     let some = w.loop-left-test.true in
-    let wide = sym w.is_IsWide.ensures ∙ c.if-not-is_wide.false in
-    handed_on t.result _ c.in_default.keys2
+    let wide = sym w.is_wide.ensures ∙ c.if-not-is_wide.false in
+    handed_on t.result _ c.in_default.not-Between
     ∙ search-turn a.initial a.tau l.left l.points l.pair some wide (eqb l.offered 0) o.ensures t.ensures
     ∙ l.invariant.0
 
 pub loop-left-smaller : goal.loop-left-smaller
 loop-left-smaller c =
-    let w = c.before.before.before.before.before.before.before in
+    let w = c in
     let l = w.loop-left in
     let o = c.offer-offered in
     rw c.rounds_after-left.ensures (turns_fewer l.left w.loop-left-test.true (eqb l.offered 0) _ o.ensures)
@@ -63,14 +63,14 @@ loop-left-smaller c =
 pub loop-left-preserved : goal.loop-left-preserved
 unfolding points_in
 loop-left-preserved c =
-    let w = c.before.before.before.before.before.before.before in
+    let w = c in
     let l = w.loop-left in
     let a = w.args in
     let o = c.offer-offered in
     let t = c.tried-next in
     let next = c.in-Between.is in
     let some = w.loop-left-test.true in
-    let wide = sym w.is_IsWide.ensures ∙ c.if-not-is_wide.false in
+    let wide = sym w.is_wide.ensures ∙ c.if-not-is_wide.false in
     rw c.rounds_after-left.ensures (
       search-turn a.initial a.tau l.left l.points l.pair some wide (eqb l.offered 0) o.ensures (sym next ∙ t.ensures) ∙ l.invariant.0,
       omega (arith, turns_fewer l.left some (eqb l.offered 0) _ o.ensures, between_used _ _ _ t.ensures next),

@@ -14,7 +14,7 @@ use Rattle.search.specs.Search.{inward_at}
 use Rattle.search.proofs.inward.Given as goal
 
 -- What is left to do, before a turn that may propose or that takes the halving place.
-abbrev left-from : Initial → Seconds → Bool → ℕ → Pair → History
+abbrev pub left-from : Initial → Seconds → Bool → ℕ → Pair → History
 left-from i tau = stage (trial_at i tau) (proposed i tau)
 
 abbrev pub invariant-loop-left : goal.invariant-loop-left

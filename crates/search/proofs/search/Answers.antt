@@ -39,7 +39,7 @@ returns-then-tau c = simp c.if-tau.true
 pub inward-requires : goal.inward-requires
 inward-requires c =
     let a = c.args in
-    let o = c.before.before.before in
+    let o = c in
     omega (
       arith,
       between_used _ _ _ o.outward-next.ensures c.in-Between.is,
@@ -49,7 +49,7 @@ inward-requires c =
 pub returns-in-Between : goal.returns-in-Between
 returns-in-Between c =
     let a = c.args in
-    let o = c.before.before.before.before.before in
+    let o = c in
     c.finding_of.ensures
     ∙ ap (finding_of a.tau)
     (c.inward.ensures
@@ -62,6 +62,6 @@ returns-in_default c =
     let a = c.args in
     c.finding_of-in_default.ensures
     ∙ ap (finding_of a.tau)
-    (handed_on c.outward-next.result (inward_at a.initial a.tau) c.in_default.keys2
+    (handed_on c.outward-next.result (inward_at a.initial a.tau) c.in_default.not-Between
     ∙ whole a.initial a.tau a.h c.place.ensures c.outward-next.ensures)
     ∙ of-interval a.initial a.tau a.h c.if-tau.false
