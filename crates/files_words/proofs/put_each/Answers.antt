@@ -1,4 +1,3 @@
--- What is left to put, from here, equals what there was to put from the start.
 use Prim.Native.Nat.{ℕ, suc, ◌+◌, ◌-◌, ◌*◌, ◌<◌, ◌≤◌}
 use native.Mathlib.Omega.{arith}
 use native.Mathlib.Nat.{sub_self, add-zero}
@@ -9,8 +8,7 @@ use lib.ListN.{length, get_or, drop, length-drop, drop_of_length-le}
 use lib.Seq.{drop-cons}
 use Rattle.files_words.specs.Bytes.{bytes_of, as_bytes, put}
 use Rattle.files_words.proofs.PutLaws.{put_nothing, first_put}
-use Rattle.files_words.proofs.put_each.Statement.{statement}
-use Rattle.files_words.proofs.put_each.Tie as tie
+use Rattle.files_words.proofs.put_each.Goals as goal
 
 one_more : (room : List ℕ) (place : ℕ) (run : List ℕ) (left : ℕ) → 0 < left → left ≤ length run → place + 8 * length run ≤ length room →
     put room (place + 8 * (length run - left)) (as_bytes (drop (length run - left) run))
@@ -26,55 +24,30 @@ one_more room place run left more fits h =
     ∙ first_put room (place + 8 * j) (get_or run j 0) rest (omega arith)
     ∙ ap₂ (λ (p k : ℕ). put (put room (place + 8 * j) (bytes_of 8 (get_or run j 0))) p (as_bytes (drop k run))) at next
 
-abbrev invariant-loop : tie.invariant-loop
-invariant-loop room₀ place run n left₀ room left =
-    (left ≤ length run)
-    × (length room ≡ length room₀)
-    × (put room (place + 8 * (length run - left)) (as_bytes (drop (length run - left) run)) ≡ put room₀ place (as_bytes run))
+pub loop-left-init : goal.loop-left-init
+loop-left-init c = (search rules, refl, simp (sub_self, add-zero))
 
-abbrev decreases-loop : tie.decreases-loop
-decreases-loop room₀ place run n left₀ room left = left
-
-loop-again : tie.Need-loop-preserved invariant-loop decreases-loop
-loop-again c =
-    let l = c.before.before.before.before.before.before.loop in
-    let a = c.before.before.before.before.before.before.before.before.before.args in
-    let p = c.before.before.put_word in
+pub loop-left-preserved : goal.loop-left-preserved
+loop-left-preserved c =
+    let l = c.loop-left in
+    let a = c.args in
+    let p = c.put_word in
     let next = length a.run.now - (l.left - 1) in (
       search rules,
-      p.auto.0 ∙ l.invariant.1,
+      p.auto.room ∙ l.invariant.1,
       ap (λ (d : List ℕ). put d (a.place + 8 * next) (as_bytes (drop next a.run.now))) p.ensures
-          ∙ sym (one_more l.room a.place a.run.now l.left c.before.before.before.before.before.loop-test.true l.invariant.0 (omega arith))
+          ∙ sym (one_more l.room a.place a.run.now l.left c.loop-left-test.true l.invariant.0 (omega arith))
           ∙ l.invariant.2,
     )
 
-returns : tie.Need-returns invariant-loop decreases-loop
+pub returns : goal.returns
 unfolding as_bytes
 returns c =
-    let l = c.before.loop in
-    let a = c.before.before.before.before.args in
+    let l = c.loop-left in
+    let a = c.args in
     let none : l.left ≡ 0 = omega arith in
     let n = length a.run.now in
     let past : drop (n - l.left) a.run.now ≡ [] = drop_of_length-le a.run.now {i = n - l.left} (omega arith) in
     sym (put_nothing l.room (a.place + 8 * (n - l.left)) (omega arith))
     ∙ ap (λ (ws : List ℕ). put l.room (a.place + 8 * (n - l.left)) (as_bytes ws)) (sym past)
     ∙ l.invariant.2
-
-pub put-each-spec : {M : Type 1} → statement M
-put-each-spec =
-    tie.close
-    (tie.spec
-    invariant-loop
-    decreases-loop
-    (λ c. (search rules, refl, simp (sub_self, add-zero)))
-    (λ c. search rules)
-    (λ c. search rules)
-    (λ c. search rules)
-    (λ c. search rules)
-    (λ c. search rules)
-    (λ c κs. search rules)
-    (λ c. search rules)
-    (λ c. search rules)
-    loop-again
-    (λ c. search rules)
-    returns)
