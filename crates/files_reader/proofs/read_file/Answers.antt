@@ -2,7 +2,6 @@
 use Prim.Native.Nat.{ℕ}
 use mathlib.Core.Path.{◌≡◌, refl, ap, ◌∙◌}
 use mathlib.Core.List.{List, [], ◌∷◌}
-use borrow.Author.Rules.{rules}
 use Rattle.files_checks.specs.declared.Check.{Check}
 use Rattle.files_checks.specs.declared.Check.TheVariants.{Sound, Fault}
 use Rattle.files_checks.specs.Checks.{◌⟫◌}
@@ -13,8 +12,7 @@ use Rattle.files_formats.specs.Elements.{sections}
 use Rattle.files_formats.specs.Shapes.{shape_of, section_check}
 use Rattle.files_reader.specs.declared.Reading.{Reading}
 use Rattle.files_reader.specs.Reader.{edition_in, first_check, grown, grown_by, shape_in, sections_check, file_check, reading_by, reading_of, next_reading, end_reading}
-use Rattle.files_reader.proofs.read_file.Statement.{statement}
-use Rattle.files_reader.proofs.read_file.Tie as tie
+use Rattle.files_reader.proofs.read_file.Goals as goal
 
 abbrev read_all : List ℕ → Reading → List Section → Reading
 read_all file start [] = start
@@ -28,26 +26,15 @@ walked file [] (Fault number place) shape = refl
 walked file (section ∷ rest) Sound shape = walked file rest (section_check file shape section) (grown file shape section)
 walked file (section ∷ rest) (Fault number place) shape = walked file rest (Fault number place) shape
 
-returns : tie.Need-returns
+pub returns : goal.returns
 unfolding reading_of file_check shape_in
 returns c =
-    let file = c.before.before.before.before.before.before.args.file.now in
+    let file = c.args.file.now in
     let then : Section → Reading → Reading = λ section x. next_reading file x section in
-    c.read-end.ensures
+    c.read_end.ensures
     ∙ ap (end_reading file)
-    (c.before.read-next3.ensures
+    (c.read_next-requests.ensures
     ∙ ap (then Requests)
-    (c.before.before.read-next2.ensures
-    ∙ ap (then States) (c.before.before.before.read_next.ensures ∙ ap (then Centres) c.before.before.before.before.read-edition.ensures)))
+    (c.read_next-states.ensures
+    ∙ ap (then States) (c.read_next-centres.ensures ∙ ap (then Centres) c.read_edition-edition.ensures)))
     ∙ walked file sections (first_check file) (shape_of (edition_in file) 0 0 0)
-
-pub read-file-spec : {M : Type 1} → statement M
-read-file-spec =
-    tie.close
-    (tie.spec
-    (λ c κs. search rules)
-    (λ c κs. search rules)
-    (λ c κs. search rules)
-    (λ c κs. search rules)
-    (λ c κs. search rules)
-    returns)
