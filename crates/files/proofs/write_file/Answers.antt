@@ -2,7 +2,6 @@
 use Prim.Native.Nat.{ℕ}
 use mathlib.Core.Path.{◌≡◌, sym, ap, subst, ◌∙◌}
 use mathlib.Core.List.{List}
-use borrow.Author.Rules.{rules}
 use lib.ListN.{length}
 use Rattle.files_words.specs.Bytes.{as_bytes, put}
 use Rattle.files_formats.specs.declared.elements.Edition.{Edition}
@@ -15,8 +14,7 @@ use Rattle.files_reader.proofs.Accepted.{read_by, refused_by}
 use Rattle.files.specs.declared.Writing.TheVariants as writing
 use Rattle.files.specs.Writer.{Runs, runs_of, shape_by, write_check, words_by, file_of, writing_of, room_of, Fits}
 use Rattle.files.proofs.JudgeLaws.{fits}
-use Rattle.files.proofs.write_file.Statement.{statement}
-use Rattle.files.proofs.write_file.Tie as tie
+use Rattle.files.proofs.write_file.Goals as goal
 
 module _ (edition : Edition) (runs : Runs) (room : List ℕ) {x : Reading} (judged : x ≡ reading_by (write_check edition runs (length room)) (shape_by edition runs)) where
   fitting : {shape : Shape} → x ≡ Sections shape → Fits shape runs (length room)
@@ -37,33 +35,23 @@ module _ (edition : Edition) (runs : Runs) (room : List ℕ) {x : Reading} (judg
   unfolding writing_of room_of
   not_written e = let f = refused_by (write_check edition runs (length room)) _ (sym judged ∙ e) in (rw f, rw f)
 
-put-file-requires : tie.Need-put-file-requires
-put-file-requires c κs =
-    let a = c.before.before.before.before.before.before.before.before.before.args in
+pub put_file-requires : goal.put_file-requires
+put_file-requires c =
+    let a = c.args in
     fitting a.edition (runs_of a.centres.now a.states.now a.requests.now) a.room.now
-    c.before.before.before.before.judge.ensures c.before.before.shape.given.1
+    c.judge.ensures c.in-Sections.is
 
-returns : tie.Need-returns
-returns c =
-    let a = c.before.before.before.before.before.before.before.before.args in
-    not_written a.edition (runs_of a.centres.now a.states.now a.requests.now) a.room.now
-    c.before.before.before.judge.ensures c.before.number.given.1
+pub returns-in-Refused : goal.returns-in-Refused
+returns-in-Refused c =
+    let a = c.args in
+    let none = not_written a.edition (runs_of a.centres.now a.states.now a.requests.now) a.room.now c.judge.ensures c.in-Refused.is in
+    record { answer = none.0; room = none.1 }
 
-returns-2 : tie.Need-returns-2
-returns-2 c =
-    let a = c.before.before.before.before.before.before.before.before.before.before.before.before.before.args in
+pub returns-in-Sections : goal.returns-in-Sections
+returns-in-Sections c =
+    let a = c.args in
+    let file =
     written a.edition (runs_of a.centres.now a.states.now a.requests.now) a.room.now
-    c.before.before.before.before.before.before.before.before.judge.ensures c.before.before.before.before.before.before.shape.given.1 c.end.ensures.0 c.before.before.before.put-file.ensures
-
-pub write-file-spec : {M : Type 1} → statement M
-write-file-spec =
-    tie.close
-    (tie.spec
-    (λ c κs. search rules)
-    (λ c. search rules)
-    (λ c. search rules)
-    put-file-requires
-    (λ c κs. search rules)
-    returns
-    (λ c. search rules)
-    returns-2)
+    c.judge.ensures c.in-Sections.is c.end.ensures.0 c.put_file.ensures
+    in
+    record { answer = file.0; room = file.1 }
