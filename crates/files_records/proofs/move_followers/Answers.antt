@@ -60,9 +60,6 @@ module _ (run : List ℕ) (w count which : ℕ) where
 from_start : (c : goal.Start) → Among c.args.w c.args.count c.args.which
 from_start c = among _ _ _ c.requires.0
 
-in-loop : (c : goal.In-loop-left) → Next c.args.run.now c.args.w c.args.count c.args.which c.requires.0 c.requires.1 c.loop-left.left
-in-loop c = next_of _ _ _ _ c.requires.0 c.requires.1 c.loop-left.run c.loop-left.left c.loop-left-test.true c.loop-left.invariant
-
 pub overflow_mul-end : goal.overflow_mul-end
 overflow_mul-end c = omega (arith, from_start c)
 
@@ -76,22 +73,22 @@ pub loop-left-init : goal.loop-left-init
 loop-left-init c = at_first _ _ _ _ c.requires.0 c.requires.1
 
 pub overflow_sub-at : goal.overflow_sub-at
-overflow_sub-at c = omega (arith, in-loop c)
+overflow_sub-at c = omega (arith, next_of _ _ _ _ c.requires.0 c.requires.1 c.loop-left.run c.loop-left.left c.loop-left-test.true c.loop-left.invariant)
 
 pub overflow_add-from : goal.overflow_add-from
-overflow_add-from c = omega (arith, in-loop c)
+overflow_add-from c = omega (arith, next_of _ _ _ _ c.requires.0 c.requires.1 c.loop-left.run c.loop-left.left c.loop-left-test.true c.loop-left.invariant)
 
 pub offset_bounds-run-from : goal.offset_bounds-run-from
-offset_bounds-run-from c = omega (arith, in-loop c)
+offset_bounds-run-from c = omega (arith, next_of _ _ _ _ c.requires.0 c.requires.1 c.loop-left.run c.loop-left.left c.loop-left-test.true c.loop-left.invariant)
 
 pub bounds-run-from : goal.bounds-run-from
-bounds-run-from c = omega (arith, in-loop c.before, c.loop-left.invariant.long)
+bounds-run-from c = omega (arith, next_of _ _ _ _ c.requires.0 c.requires.1 c.loop-left.run c.loop-left.left c.loop-left-test.true c.loop-left.invariant, c.loop-left.invariant.long)
 
 pub offset_bounds-run-at : goal.offset_bounds-run-at
-offset_bounds-run-at c = omega (arith, in-loop c.before, c.loop-left.invariant.long)
+offset_bounds-run-at c = omega (arith, next_of _ _ _ _ c.requires.0 c.requires.1 c.loop-left.run c.loop-left.left c.loop-left-test.true c.loop-left.invariant, c.loop-left.invariant.long)
 
 pub bounds-run-at : goal.bounds-run-at
-bounds-run-at c = omega (arith, in-loop c.before, c.loop-left.invariant.long)
+bounds-run-at c = omega (arith, next_of _ _ _ _ c.requires.0 c.requires.1 c.loop-left.run c.loop-left.left c.loop-left-test.true c.loop-left.invariant, c.loop-left.invariant.long)
 
 pub loop-left-preserved : goal.loop-left-preserved
 loop-left-preserved c =
