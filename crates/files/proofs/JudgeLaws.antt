@@ -26,20 +26,28 @@ unfolding each
 sound_each [] h = refl
 sound_each (section ∷ rest) h = sound_both _ _ (h section) (sound_each rest h)
 
-pub each_sound : (check : Section → Check) → each check sections ≡ Sound → (section : Section) → check section ≡ Sound
+each_of_three : (check : Section → Check) → each check sections ≡ Sound → (check Centres ≡ Sound) × (check States ≡ Sound) × (check Requests ≡ Sound)
 unfolding each
-each_sound check e =
+each_of_three check e =
     let c = both (check Centres) _ e in
     let s = both (check States) _ c.1 in
     let r = both (check Requests) _ s.1 in
-    λ section. elim section [ Centres ↦ c.0 | States ↦ s.0 | Requests ↦ r.0 ]
+    (c.0, s.0, r.0)
+
+pub each_sound : (check : Section → Check) → each check sections ≡ Sound → (section : Section) → check section ≡ Sound
+each_sound check e Centres = (each_of_three check e).0
+each_sound check e States = (each_of_three check e).1
+each_sound check e Requests = (each_of_three check e).2
 
 -- ---- Whole records, and counts within their limits.
+of_whole : (edition : Edition) (runs : Runs) → whole_checks edition runs ≡ Sound → (section : Section) →
+    length (runs section) ≡ records_in edition section (length (runs section)) * width_of edition section
+of_whole edition runs e section = of_records edition section (length (runs section)) (eqb-true _ _ (needed _ _ _ (each_sound _ e section)))
+
 pub whole_runs : (edition : Edition) (runs : Runs) → whole_checks edition runs ≡ Sound → Whole (shape_by edition runs) runs
-whole_runs edition runs e = λ section. elim section [ Centres ↦ all Centres | States ↦ all States | Requests ↦ all Requests ]
-  where
-    all : (section : Section) → length (runs section) ≡ records_in edition section (length (runs section)) * width_of edition section
-    all section = of_records edition section (length (runs section)) (eqb-true _ _ (needed _ _ _ (each_sound _ e section)))
+whole_runs edition runs e Centres = of_whole edition runs e Centres
+whole_runs edition runs e States = of_whole edition runs e States
+whole_runs edition runs e Requests = of_whole edition runs e Requests
 
 pub few_records : (shape : Shape) → limit_checks shape ≡ Sound → (section : Section) → count_of shape section ≤ limit_of section
 few_records shape e section = leb-true _ _ (needed _ _ _ (each_sound _ e section))

@@ -11,7 +11,6 @@ use lib.ListN.{length, get_or, take}
 use lib.Seq.{length-take-le}
 use Rattle.bits.specs.Choice.{pick}
 use Rattle.files_records.specs.Records.{same_column}
-use Rattle.files_checks.specs.declared.Check.{Check}
 use Rattle.files_checks.specs.declared.Check.TheVariants.{Sound, Fault}
 use Rattle.files_checks.specs.Checks.{need, walk}
 use Rattle.files_checks.proofs.WalkLaws.{Quiet, walk_quiet, walk_short, walk_stops}

@@ -1,7 +1,7 @@
 -- Document 01, "Element file, edition 1": "the edition, 1; then sections in a fixed order, each after its count: centres (0 to 16, one word: μ); states (0
 -- to 500, eight words: centre number, epoch, x y z vx vy vz); requests (0 to 1,500, two words: state number, time)." An edition is its table and its
 -- columns' numbers.
-use Rattle.std.specs.Prelude.{ℕ, ◌+◌, Bool, List, [], ◌∷◌, eqb, length}
+use Rattle.std.specs.Prelude.{ℕ, Bool, List, [], ◌∷◌, eqb, length}
 use Rattle.files_formats.specs.declared.kinds.Kind.{Kind}
 use Rattle.files_formats.specs.declared.kinds.Kind.TheVariants.{Figure, Number}
 use Rattle.files_formats.specs.declared.elements.Edition.{Edition}

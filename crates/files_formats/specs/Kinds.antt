@@ -1,6 +1,6 @@
 -- Document 01: "Float words may hold any bits"; "24 number not in its section", "Numbers start at 0". What a word may be is its kind. A word is judged by its
 -- kind, by how many records its number counts below, by the words of its column before it, and by itself: the number of its refusal, or 0.
-use Rattle.std.specs.Prelude.{ℕ, ◌+◌, ◌*◌, ◌%◌, ◌<◌, ◌≤◌, ◌≡◌, Bool, true, false, List, [], ltb, length, get_or, take}
+use Rattle.std.specs.Prelude.{ℕ, ◌+◌, ◌*◌, ◌%◌, ◌<◌, ◌≤◌, ◌≡◌, Bool, true, false, List, ltb, length, get_or, take}
 use Rattle.bits.specs.Choice.{pick}
 use Rattle.files_records.specs.Records.{same_column}
 use Rattle.files_checks.specs.Checks.{Ruling}

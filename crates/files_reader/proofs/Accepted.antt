@@ -85,18 +85,14 @@ module _ (file : List ℕ) (sound : file_check file ≡ Sound) where
 longest_of_lem : (edition : Edition) → longest_of edition ≤ longest_file
 longest_of_lem One = omega arith
 
+few_words : (shape : Shape) → Few shape → (section : Section) → words_of shape section ≤ limit_of section * width_of shape.edition section
+few_words shape few section = more (width_of shape.edition section) (few section)
+
 pub within_longest : (shape : Shape) → Few shape → (section : Section) →
     place_of shape section + 8 + 8 * (limit_of section * width_of shape.edition section) ≤ longest_file
-within_longest shape few =
-    let words : (section : Section) → words_of shape section ≤ limit_of section * width_of shape.edition section =
-    λ section. more (width_of shape.edition section) (few section)
-    in
-    let all = longest_of_lem shape.edition in
-    λ section. elim section [
-      | Centres ↦ omega (arith, all)
-      | States ↦ omega (arith, all, words Centres)
-      | Requests ↦ omega (arith, all, words Centres, words States)
-    ]
+within_longest shape few Centres = omega (arith, longest_of_lem shape.edition)
+within_longest shape few States = omega (arith, longest_of_lem shape.edition, few_words shape few Centres)
+within_longest shape few Requests = omega (arith, longest_of_lem shape.edition, few_words shape few Centres, few_words shape few States)
 
 pub end_within : (shape : Shape) → Few shape → end_of shape ≤ longest_file
 end_within shape few = omega (arith, within_longest shape few Requests, more (width_of shape.edition Requests) (few Requests))
