@@ -3,7 +3,6 @@ use Prim.Native.Nat.{ℕ, ◌+◌, ◌*◌, ◌≤◌, ◌<◌}
 use mathlib.Core.List.{List}
 use mathlib.Core.Path.{◌≡◌, sym, ap, ◌∙◌}
 use native.Mathlib.Omega.{arith}
-use borrow.Author.Rules.{rules}
 use lib.ListN.{length}
 use Rattle.files_words.specs.Bytes.{put}
 use Rattle.files_words.proofs.PutLaws.{put_fits}
@@ -16,8 +15,7 @@ use Rattle.files_differences.specs.declared.told.Comparison.TheVariants as compa
 use Rattle.files_compare.specs.Compare.{results_check, row_count, rows_told, largest_of, comparison_of, run_after}
 use Rattle.files_compare.proofs.Steps.{rows_length}
 use Rattle.files_compare.proofs.Orders.{sound_so, refuses_in_order, keeps_or_tells}
-use Rattle.files_compare.proofs.compare_sound.Statement.{statement}
-use Rattle.files_compare.proofs.compare_sound.Tie as tie
+use Rattle.files_compare.proofs.compare_sound.Goals as goal
 
 module _ (left right run : List ℕ) (sound : (results_check left ≡ Sound) × (results_check right ≡ Sound)) where
   abbrev Right : Comparison → List ℕ → Type 0
@@ -51,45 +49,33 @@ few left sound ev = omega (arith, ev, (sound_so left sound).few)
 there : (file : List ℕ) → results_check file ≡ Sound → {v : ℕ} → v ≡ row_count file → result_place v ≤ length file
 there file sound ev = omega (arith, ev, (sound_so file sound).size)
 
-returns : tie.Need-returns
+pub returns-then-count-word_at : goal.returns-then-count-word_at
+returns-then-count-word_at c =
+    let r =
+        counts-differ _ _ _ c.requires c.word_at-count.ensures c.word_at.ensures c.if-count-word_at.true
+    in record { comparison = r.0; run = r.1 }
+
+pub overflow_mul-words : goal.overflow_mul-words
+overflow_mul-words c =
+    omega (arith, few _ c.requires.0 c.word_at-count.ensures)
+
+pub returns-then-run-words : goal.returns-then-run-words
+returns-then-run-words c =
+    let r =
+        too_short _ _ _ c.requires c.word_at-count.ensures c.word_at.ensures c.if-count-word_at.false c.if-run-words.true
+    in record { comparison = r.0; run = r.1 }
+
+pub compare_rows-largest-requires : goal.compare_rows-largest-requires
+compare_rows-largest-requires c =
+    let left = c.word_at-count.ensures in
+    let right = c.word_at.ensures in
+    (few _ c.requires.0 left, c.if-run-words.false, there _ c.requires.0 left, there _ c.requires.1 (c.if-count-word_at.false ∙ right))
+
+pub returns : goal.returns
 returns c =
-    let p = c.before.before.before.before.before.before in
-    counts-differ _ _ _ p.requires c.before.before.word_at.ensures c.before.word-at2.ensures c.if1.true
-
-mul_words : tie.Need-overflow-mul-words
-mul_words c =
-    let p = c.before.before.before.before.before.before in
-    omega (arith, few _ p.requires.0 c.before.before.word_at.ensures)
-
-returns-2 : tie.Need-returns-2
-returns-2 c =
-    let p = c.before.before.before.before.before.before.before in
-    too_short _ _ _ p.requires c.before.before.before.word_at.ensures c.before.before.word-at2.ensures c.before.if1.false c.if2.true
-
-compare-rows-requires : tie.Need-compare-rows-requires
-compare-rows-requires c κs =
-    let p = c.before.before.before.before.before.before.before.before in
-    let left = c.before.before.before.before.word_at.ensures in
-    let right = c.before.before.before.word-at2.ensures in
-    (few _ p.requires.0 left, c.before.if2.false, there _ p.requires.0 left, there _ p.requires.1 (c.before.before.if1.false ∙ right))
-
-returns-3 : tie.Need-returns-3
-returns-3 c =
-    let p = c.before.before.before.before.before.before.before.before.before.before.before in
-    let rows = c.before.before.compare-rows.ensures in
-    told _ _ _ p.requires c.before.before.before.before.before.before.before.word_at.ensures
-    c.before.before.before.before.before.before.word-at2.ensures
-    c.before.before.before.before.before.if1.false c.before.before.before.before.if2.false rows.1 rows.0
-
-pub compare-sound-spec : {M : Type 1} → statement M
-compare-sound-spec =
-    tie.close
-    (tie.spec
-    (λ c κs. search rules)
-    (λ c κs. search rules)
-    returns
-    mul_words
-    returns-2
-    compare-rows-requires
-    (λ c. search rules)
-    returns-3)
+    let rows = c.compare_rows-largest.ensures in
+    let r =
+        told _ _ _ c.requires c.word_at-count.ensures
+        c.word_at.ensures
+        c.if-count-word_at.false c.if-run-words.false rows.largest rows.run
+    in record { comparison = r.0; run = r.1 }

@@ -3,15 +3,13 @@ use Prim.Native.Nat.{ℕ, ◌+◌, ◌≤◌}
 use mathlib.Core.List.{List, [], ◌∷◌}
 use mathlib.Core.Path.{◌≡◌, refl, sym, ap}
 use native.Mathlib.Omega.{arith}
-use borrow.Author.Rules.{rules}
 use lib.ListN.{length, get_or, set, length-set}
 use Rattle.files_words.specs.Bytes.{put}
 use Rattle.files_words.proofs.PutLaws.{put_byte, put_next}
 use Rattle.files_differences.specs.declared.told.Figure.{Figure}
 use Rattle.files_differences.specs.declared.told.Figure.TheVariants as figure
 use Rattle.files_differences.specs.Told.{figure_words}
-use Rattle.files_compare.proofs.put_figure.Statement.{statement}
-use Rattle.files_compare.proofs.put_figure.Tie as tie
+use Rattle.files_compare.proofs.put_figure.Goals as goal
 
 -- What is told of a figure is two words.
 two : (f : Figure) → figure_words f ≡ get_or (figure_words f) 0 0 ∷ get_or (figure_words f) 1 0 ∷ []
@@ -28,22 +26,10 @@ stored run at a b h =
 told : (run : List ℕ) (at : ℕ) (f : Figure) {ws : List ℕ} → at + 2 ≤ length run → ws ≡ figure_words f → set (set run at (get_or ws 0 0)) (at + 1) (get_or ws 1 0) ≡ put run at (figure_words f)
 told run at f {ws} h e = rw (e, stored run at (get_or (figure_words f) 0 0) (get_or (figure_words f) 1 0) h) (ap (put run at) (sym (two f)))
 
-returns : tie.Need-returns
-returns c =
-    let a = c.before.before.args in
-    told a.run.now a.at a.figure c.before.before.requires c.figure-words.ensures
+pub bounds-run-at-2 : goal.bounds-run-at-2
+bounds-run-at-2 c = simp length-set (omega (arith, c.requires))
 
-pub put-figure-spec : {M : Type 1} → statement M
-put-figure-spec =
-    tie.close
-    (tie.spec
-    (λ c κs. search rules)
-    (λ c. search rules)
-    (λ c. search rules)
-    (λ c. search rules)
-    (λ c. search rules)
-    (λ c. search rules)
-    (λ c. search rules)
-    (λ c. simp length-set (omega (arith, c.before.before.requires)))
-    (λ c. search rules)
-    returns)
+pub returns : goal.returns
+returns c =
+    let a = c.args in
+    told a.run.now a.at a.figure c.requires c.figure_words-words.ensures
