@@ -2,13 +2,11 @@
 use Prim.Native.Nat.{ℕ, ◌<◌, ◌≤◌}
 use mathlib.Core.Path.{◌≡◌}
 use mathlib.Core.List.{List}
-use borrow.Author.Rules.{rules}
 use borrow.Author.Tests.{le-leb, lt-leb}
 use lib.ListN.{length}
 use Rattle.files_checks.specs.declared.Check.TheVariants.{Sound}
 use Rattle.files_check.specs.RowsFile.{judged_by, with_verdicts, verdicts_by}
-use Rattle.files_check.proofs.judge_rows.Statement.{statement}
-use Rattle.files_check.proofs.judge_rows.Tie as tie
+use Rattle.files_check.proofs.judge_rows.Goals as goal
 
 module _ (file : List ℕ) (rows : ℕ) (run : List ℕ) where
   too_short : length run < rows → (record { number = 26; place_or_rows = rows } ≡ judged_by Sound rows (length run)) × (run ≡ verdicts_by Sound file rows run)
@@ -18,11 +16,12 @@ module _ (file : List ℕ) (rows : ℕ) (run : List ℕ) where
       → (record { number = 0; place_or_rows = rows } ≡ judged_by Sound rows (length run)) × (now ≡ verdicts_by Sound file rows run)
   long_enough h e = (rw (le-leb rows (length run) h), rw (le-leb rows (length run) h) e)
 
-pub judge-rows-spec : {M : Type 1} → statement M
-judge-rows-spec =
-    tie.close
-    (tie.spec
-    (λ c. too_short _ _ _ c.if1.true)
-    (λ c κs. search rules)
-    (λ c. search rules)
-    (λ c. long_enough _ _ _ c.before.before.before.before.if1.false c.before.before.put-verdicts.ensures))
+pub returns-then-verdicts-rows : goal.returns-then-verdicts-rows
+returns-then-verdicts-rows c =
+    let r = too_short c.args.file.now _ _ c.if-verdicts-rows.true in
+    record { judged = r.0; verdicts = r.1 }
+
+pub returns : goal.returns
+returns c =
+    let r = long_enough _ _ _ c.if-verdicts-rows.false c.put_verdicts.ensures in
+    record { judged = r.0; verdicts = r.1 }
