@@ -4,7 +4,7 @@
 -- law always speaks of the contract as it stands.
 use Rattle.std.specs.Prelude.{◌≡◌, List, ℕ}
 use seplogic.Ra.Ura.{Ura}
-use base.Logic.{SProp, ent, sep}
+use base.Logic.{SProp, ent}
 use prog.Memory.{Memory}
 use prog.Routine.{Routine}
 use types.Logic.{Logic}

@@ -1,7 +1,7 @@
 -- The words of doubles. Document 01: "Doubles are told apart by exponent field: 0 is zero or subnormal, 1 to 2046 normal, 2047 not finite."
 use Rattle.std.specs.Prelude.{ℕ, zero, suc, ◌+◌, ◌*◌, ◌/◌, ◌%◌, ◌^◌, List, map, eqb, leb, Float}
 use Rattle.std.specs.Float.{binary64}
-use Rattle.std.specs.Float.Ieee.{of_bits, to_bits}
+use Rattle.std.specs.Float.Ieee.{to_bits}
 use Rattle.bits.specs.Choice.{pick}
 use Rattle.bits.specs.declared.words.Kind.{Kind}
 use Rattle.bits.specs.declared.words.Kind.TheVariants as kind

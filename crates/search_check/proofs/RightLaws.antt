@@ -15,7 +15,7 @@ use Rattle.bits.proofs.Doubles.{no_nan_bits}
 use Rattle.series.specs.declared.figures.Anomaly.{Anomaly}
 use Rattle.series.specs.declared.figures.Seconds.{Seconds}
 use Rattle.search_points.specs.declared.figures.Initial.{Initial}
-use Rattle.search_points.specs.declared.figures.Sort.TheVariants.{Short, Past, Exact, Unreadable}
+use Rattle.search_points.specs.declared.figures.Sort.TheVariants.{Short, Past, Exact}
 use Rattle.search_points.specs.Trial.{anomaly_at, trial_at}
 use Rattle.search_points.proofs.Points.{signed_word, sign_bound, signed_field}
 use Rattle.search_rule.specs.declared.pair.End.{End}

@@ -1,6 +1,6 @@
 -- The proposals of two rounds, evaluated from the definitions; the places come from an independent program. The state is μ = 398600.4418 km^3/s^2, position
 -- (-2500, -4000, 2000) km, velocity (-6.8, -4.4, 8.7) km/s, and τ = 1800 s. Then proposals that haven't the sign of τ, by hand.
-use Rattle.std.specs.Prelude.{ℕ, ◌≡◌, refl, Bool, true, false, Float}
+use Rattle.std.specs.Prelude.{ℕ, ◌≡◌, refl, Bool, true, false}
 use Rattle.std.specs.Float.{binary64}
 use Rattle.std.specs.Float.Ieee.{of_bits, to_bits, neg, add, sub, mul, div, lt, eq, ne}
 use Rattle.series.specs.Series.{beyond_one, reduced_from, nested, c4_of, c5_of, at_reduced, doublings, quotients_of, coefficients_of, sums_of}

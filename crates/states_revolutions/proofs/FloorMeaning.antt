@@ -1,5 +1,5 @@
 -- The computed floor of a fraction is its floor, and no other whole number is.
-use Rattle.std.proofs.Common.{◌≡◌, ℕ, zero, suc, ◌+◌, ◌-◌, ◌*◌, ◌/◌, ◌<◌, ◌≤◌, Bool, true, false, T, ltb, leb, ℤ, pos, negsuc, ◌*ℤ◌, neg_ℤ, sym, refl, ap, ◌∙◌, subst, suc-le-suc, le_of_suc-le-suc, div-mul-le_self, arith, le→leb, ltb→lt, lt→ltb, leb→le}
+use Rattle.std.proofs.Common.{◌≡◌, ℕ, zero, suc, ◌+◌, ◌-◌, ◌*◌, ◌/◌, ◌<◌, ◌≤◌, Bool, true, false, T, ℤ, pos, negsuc, ◌*ℤ◌, neg_ℤ, sym, refl, ap, ◌∙◌, subst, suc-le-suc, le_of_suc-le-suc, div-mul-le_self, arith, le→leb, ltb→lt, lt→ltb, leb→le}
 use native.Mathlib.Nat.{lt-div-mul-add, div-eq_of_lt-le, div-eq_of_lt}
 use lib.IntN.{suc_ℤ}
 use lib.Signed.{lt_z, le_z}

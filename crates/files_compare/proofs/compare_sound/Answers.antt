@@ -52,7 +52,7 @@ there file sound ev = omega (arith, ev, (sound_so file sound).size)
 pub returns-then-count-word_at : goal.returns-then-count-word_at
 returns-then-count-word_at c =
     let r =
-        counts-differ _ _ _ c.requires c.word_at-count.ensures c.word_at.ensures c.if-count-word_at.true
+    counts-differ _ _ _ c.requires c.word_at-count.ensures c.word_at.ensures c.if-count-word_at.true
     in record { comparison = r.0; run = r.1 }
 
 pub overflow_mul-words : goal.overflow_mul-words
@@ -62,7 +62,7 @@ overflow_mul-words c =
 pub returns-then-run-words : goal.returns-then-run-words
 returns-then-run-words c =
     let r =
-        too_short _ _ _ c.requires c.word_at-count.ensures c.word_at.ensures c.if-count-word_at.false c.if-run-words.true
+    too_short _ _ _ c.requires c.word_at-count.ensures c.word_at.ensures c.if-count-word_at.false c.if-run-words.true
     in record { comparison = r.0; run = r.1 }
 
 pub compare_rows-largest-requires : goal.compare_rows-largest-requires
@@ -75,7 +75,7 @@ pub returns : goal.returns
 returns c =
     let rows = c.compare_rows-largest.ensures in
     let r =
-        told _ _ _ c.requires c.word_at-count.ensures
-        c.word_at.ensures
-        c.if-count-word_at.false c.if-run-words.false rows.largest rows.run
+    told _ _ _ c.requires c.word_at-count.ensures
+    c.word_at.ensures
+    c.if-count-word_at.false c.if-run-words.false rows.largest rows.run
     in record { comparison = r.0; run = r.1 }

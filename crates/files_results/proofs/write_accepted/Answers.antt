@@ -1,6 +1,6 @@
 -- The head and the rows fit, or nothing is written.
 use Prim.Native.Nat.{◌≤◌}
-use mathlib.Core.Path.{◌≡◌, ◌∙◌, sym}
+use mathlib.Core.Path.{◌∙◌, sym}
 use native.Mathlib.Omega.{arith}
 use lib.ListN.{length}
 use Rattle.files_words.specs.Bytes.{as_bytes}

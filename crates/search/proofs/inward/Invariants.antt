@@ -8,7 +8,7 @@ use Rattle.search_points.specs.declared.figures.Initial.{Initial}
 use Rattle.search_points.specs.Trial.{trial_at}
 use Rattle.search_rule.specs.declared.pair.Pair.{Pair}
 use Rattle.search_rule.specs.Rule.{History, counted}
-use Rattle.search_rule.proofs.Turns.{turns_left, stage, turn}
+use Rattle.search_rule.proofs.Turns.{turns_left, stage}
 use Rattle.search_proposals.specs.Proposals.{proposed}
 use Rattle.search.specs.Search.{inward_at}
 use Rattle.search.proofs.inward.Given as goal

@@ -6,7 +6,7 @@ use mathlib.Core.List.{List}
 use Rattle.files_formats.specs.declared.elements.Section.TheVariants.{Centres, States}
 use Rattle.files_formats.specs.Shapes.{record_of}
 use Rattle.files_reader.proofs.Accepted.{accepted_counts}
-use Rattle.files_results.specs.Requests.{field, state_place, eight_words, request_words}
+use Rattle.files_results.specs.Requests.{field, eight_words, request_words}
 use Rattle.files_results.proofs.Numbers.{state_number, centre_number}
 use Rattle.files_results.proofs.requests.request_words.Goals as goal
 
