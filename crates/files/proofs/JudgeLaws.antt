@@ -75,7 +75,7 @@ module _ (edition : Edition) (runs : Runs) (room : ℕ) (sound : write_check edi
 -- ---- And the other way round.
 pub proper_sound : (shape : Shape) (runs : Runs) (section : Section) → Proper shape runs section →
     (limit_check shape section (count_of shape section) ⟫ run_check (runs section) shape section) ≡ Sound
-proper_sound shape runs section p = sound_both _ _ (sound_need _ 23 _ (le-leb _ _ p.few)) p.numbers
+proper_sound here runs section p = sound_both _ _ (sound_need _ 23 _ (le-leb _ _ p.few)) p.numbers
 
 module _ (shape : Shape) (runs : Runs) (proper : (section : Section) → Proper shape runs section) where
   pub proper_whole : Whole shape runs
@@ -109,8 +109,8 @@ each_then check last = by (check Centres) (check States) (check Requests)
 next_count_lem : (k : Check) (shape : Shape) (section : Section) (words : ℕ) →
     let count = records_in shape.edition section words in
     next_count (reading_by k shape) section words ≡ reading_by (k ⟫ limit_check shape section count) (with_count shape section count)
-next_count_lem Sound shape section words = refl
-next_count_lem (Fault m q) shape section words = refl
+next_count_lem Sound before section words = refl
+next_count_lem (Fault m q) before section words = refl
 
 counts_shape_lem : (edition : Edition) (runs : Runs) →
     counts_shape edition (length (runs Centres)) (length (runs States)) (length (runs Requests))
@@ -148,8 +148,8 @@ module _ (edition : Edition) (runs : Runs) (room : ℕ) where
   judged_by (Refused number place) = Refused number place
 
   went_on : (k : Check) (shape : Shape) → judged_by (reading_by k shape) ≡ reading_by (k ⟫ last shape) shape
-  went_on Sound shape = refl
-  went_on (Fault m q) shape = refl
+  went_on Sound counted = refl
+  went_on (Fault m q) counted = refl
 
   abbrev Counted : Reading → Type 0
   Counted x = x ≡ counts_shape edition (length (runs Centres)) (length (runs States)) (length (runs Requests))

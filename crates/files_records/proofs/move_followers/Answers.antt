@@ -73,22 +73,34 @@ pub loop-left-init : goal.loop-left-init
 loop-left-init c = at_first _ _ _ _ c.requires.0 c.requires.1
 
 pub overflow_sub-at : goal.overflow_sub-at
-overflow_sub-at c = omega (arith, next_of _ _ _ _ c.requires.0 c.requires.1 c.loop-left.run c.loop-left.left c.loop-left-test.true c.loop-left.invariant)
+overflow_sub-at c =
+    let next = next_of _ _ _ _ c.requires.0 c.requires.1 c.loop-left.run c.loop-left.left c.loop-left-test.true c.loop-left.invariant in
+    omega (arith, next)
 
 pub overflow_add-from : goal.overflow_add-from
-overflow_add-from c = omega (arith, next_of _ _ _ _ c.requires.0 c.requires.1 c.loop-left.run c.loop-left.left c.loop-left-test.true c.loop-left.invariant)
+overflow_add-from c =
+    let next = next_of _ _ _ _ c.requires.0 c.requires.1 c.loop-left.run c.loop-left.left c.loop-left-test.true c.loop-left.invariant in
+    omega (arith, next)
 
 pub offset_bounds-run-from : goal.offset_bounds-run-from
-offset_bounds-run-from c = omega (arith, next_of _ _ _ _ c.requires.0 c.requires.1 c.loop-left.run c.loop-left.left c.loop-left-test.true c.loop-left.invariant)
+offset_bounds-run-from c =
+    let next = next_of _ _ _ _ c.requires.0 c.requires.1 c.loop-left.run c.loop-left.left c.loop-left-test.true c.loop-left.invariant in
+    omega (arith, next)
 
 pub bounds-run-from : goal.bounds-run-from
-bounds-run-from c = omega (arith, next_of _ _ _ _ c.requires.0 c.requires.1 c.loop-left.run c.loop-left.left c.loop-left-test.true c.loop-left.invariant, c.loop-left.invariant.long)
+bounds-run-from c =
+    let next = next_of _ _ _ _ c.requires.0 c.requires.1 c.loop-left.run c.loop-left.left c.loop-left-test.true c.loop-left.invariant in
+    omega (arith, next, c.loop-left.invariant.long)
 
 pub offset_bounds-run-at : goal.offset_bounds-run-at
-offset_bounds-run-at c = omega (arith, next_of _ _ _ _ c.requires.0 c.requires.1 c.loop-left.run c.loop-left.left c.loop-left-test.true c.loop-left.invariant, c.loop-left.invariant.long)
+offset_bounds-run-at c =
+    let next = next_of _ _ _ _ c.requires.0 c.requires.1 c.loop-left.run c.loop-left.left c.loop-left-test.true c.loop-left.invariant in
+    omega (arith, next, c.loop-left.invariant.long)
 
 pub bounds-run-at : goal.bounds-run-at
-bounds-run-at c = omega (arith, next_of _ _ _ _ c.requires.0 c.requires.1 c.loop-left.run c.loop-left.left c.loop-left-test.true c.loop-left.invariant, c.loop-left.invariant.long)
+bounds-run-at c =
+    let next = next_of _ _ _ _ c.requires.0 c.requires.1 c.loop-left.run c.loop-left.left c.loop-left-test.true c.loop-left.invariant in
+    omega (arith, next, c.loop-left.invariant.long)
 
 pub loop-left-preserved : goal.loop-left-preserved
 loop-left-preserved c =

@@ -2,30 +2,31 @@ use Prim.Native.Nat.{ℕ, suc, ◌+◌, ◌-◌, ◌*◌, ◌^◌, ◌<◌}
 use native.Mathlib.Omega.{arith}
 use native.Mathlib.Nat.{add-zero}
 use mathlib.Core.Path.{◌≡◌, refl, sym, ap, ap₂, ◌∙◌}
-use lib.ListN.{take, drop}
+use mathlib.Core.List.{List}
+use lib.ListN.{get_or, take, drop}
 use Rattle.files_words.specs.Bytes.{number_of}
 use Rattle.files_words.proofs.WordLaws.{below_of_lem, below_drop, number_bound, lower_byte}
 use Rattle.files_words.proofs.whole_word.Goals as goal
 
 -- fewer than eight bytes so far
-small : (c : goal.After-wide) → c.loop-left.word < 256 ^ 7
-small c =
-    let l = c.loop-left in
-    let a = c.args in
-    rw l.invariant.1
-    (number_bound 7 (8 - l.left) (drop (a.place + l.left) a.file.now)
-    (below_drop 256 (a.place + l.left) a.file.now (below_of_lem 256 a.file.now (λ i. omega (arith, c.shared_slice_known-in-loop-left-1.given i))))
-    (omega arith))
+small : (file : List ℕ) (place left : ℕ) {word : ℕ} → ((i : ℕ) → get_or file i 0 < 256) → 0 < left → word ≡ number_of (take (8 - left) (drop (place + left) file)) →
+    word < 256 ^ 7
+small file place left bytes more e =
+    rw e (number_bound 7 (8 - left) (drop (place + left) file) (below_drop 256 (place + left) file (below_of_lem 256 file bytes)) (omega arith))
 
 pub loop-left-init : goal.loop-left-init
 unfolding number_of
 loop-left-init c = (omega arith, refl)
 
 pub overflow_mul-word : goal.overflow_mul-word
-overflow_mul-word c = omega (arith, small c)
+overflow_mul-word c =
+    let fits = small c.args.file.now c.args.place c.loop-left.left (λ i. omega (arith, c.type_inv.file i)) c.loop-left-test.true c.loop-left.invariant.1 in
+    omega (arith, fits)
 
 pub overflow_add-word : goal.overflow_add-word
-overflow_add-word c = omega (arith, small c, c.wide.ensures.1)
+overflow_add-word c =
+    let fits = small c.args.file.now c.args.place c.loop-left.left (λ i. omega (arith, c.type_inv.file i)) c.loop-left-test.true c.loop-left.invariant.1 in
+    omega (arith, fits, c.wide.ensures.1)
 
 pub loop-left-preserved : goal.loop-left-preserved
 loop-left-preserved c =
