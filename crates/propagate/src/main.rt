@@ -19,9 +19,8 @@ use files_results::LONGEST_RESULT;
 use noted::Noted;
 use std::env::{Env, FillError};
 use std::fs::File;
-use std::io;
 use std::io::{Cursor, Read, Write};
-use std::str;
+use std::{io, str};
 use streams::Taken;
 
 fn main(rt: HostRuntime) {
