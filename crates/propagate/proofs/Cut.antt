@@ -1,13 +1,7 @@
 -- Of a long file the program reads the first 56,161 bytes. Whatever follows them, their result file is that of the whole: the reader walks forward, and no word that it
 -- asks for stands behind byte 56,160.
-use Prim.Native.Nat.{ℕ, zero, suc, ◌+◌, ◌*◌, ◌<◌, ◌≤◌}
-use native.Mathlib.Omega.{arith}
-use mathlib.Core.Path.{◌≡◌, refl, sym, ap, ap₂, ◌∙◌}
-use mathlib.Core.Bool.{Bool, true, false}
-use mathlib.Core.List.{List, [], ◌∷◌, ◌++◌}
-use borrow.Author.Tests.{leb-true, le-leb, lt-leb}
-use lib.Dec.{leb}
-use lib.ListN.{length, take, drop, length-append, length-drop}
+use Rattle.std.proofs.Common.{ℕ, zero, suc, ◌+◌, ◌*◌, ◌<◌, ◌≤◌, arith, ◌≡◌, refl, sym, ap, ap₂, ◌∙◌, Bool, true, false, leb, leb-true, le-leb, List, [], ◌∷◌, ◌++◌, length, take, drop, length-append, length-drop}
+use borrow.Author.Tests.{lt-leb}
 use lib.Seq.{take-append-le, drop-append-le}
 use Rattle.files_words.specs.Bytes.{number_of, word_at, words_from, as_bytes}
 use Rattle.files_words.proofs.WordLaws.{word_whole, next_word}
@@ -15,6 +9,7 @@ use Rattle.files_records.proofs.Steps.{more}
 use Rattle.files_checks.specs.declared.Check.{Check}
 use Rattle.files_checks.specs.declared.Check.TheVariants.{Sound, Fault}
 use Rattle.files_checks.specs.Checks.{need, told, ◌⟫◌, Ruling, walk, count_check, counted_check, edition_check, end_check}
+use Rattle.files_formats.specs.declared.elements.Edition.{Edition}
 use Rattle.files_formats.specs.declared.elements.Section.{Section}
 use Rattle.files_formats.specs.declared.elements.Section.TheVariants.{Centres, States, Requests}
 use Rattle.files_formats.specs.declared.shapes.Shape.{Shape}
@@ -27,9 +22,21 @@ use Rattle.files_results.specs.Results.{result_by, result_file}
 
 -- One count more within its limit.
 still_few : (shape : Shape) (section : Section) {n : ℕ} → n ≤ limit_of section → Few shape → Few (with_count shape section n)
-still_few shape Centres h few = λ section. elim section [ Centres ↦ h | States ↦ few States | Requests ↦ few Requests ]
-still_few shape States h few = λ section. elim section [ Centres ↦ few Centres | States ↦ h | Requests ↦ few Requests ]
-still_few shape Requests h few = λ section. elim section [ Centres ↦ few Centres | States ↦ few States | Requests ↦ h ]
+still_few shape Centres h few Centres = h
+still_few shape Centres h few States = few States
+still_few shape Centres h few Requests = few Requests
+still_few shape States h few Centres = few Centres
+still_few shape States h few States = h
+still_few shape States h few Requests = few Requests
+still_few shape Requests h few Centres = few Centres
+still_few shape Requests h few States = few States
+still_few shape Requests h few Requests = h
+
+-- No counts are within their limits.
+none_few : (edition : Edition) → Few (shape_of edition 0 0 0)
+none_few edition Centres = omega arith
+none_few edition States = omega arith
+none_few edition Requests = omega arith
 
 module _ (start rest : List ℕ) where
   abbrev whole : List ℕ
@@ -115,7 +122,7 @@ module _ (start rest : List ℕ) where
         let none = shape_of (edition_in start) 0 0 0 in
         ap₂ ◌⟫◌ (same_first near)
         (ap (λ (w : ℕ). sections_check whole (shape_of (edition_of w) 0 0 0) sections) (same_word 0 near)
-        ∙ same_sections sections none (λ section. elim section [ Centres ↦ omega arith | States ↦ omega arith | Requests ↦ omega arith ]))
+        ∙ same_sections sections none (none_few (edition_in start)))
 
     -- A file of this length is not accepted, and of a refusal only the number is told.
     told_by : (check : Check) → file_check start ≡ check →

@@ -1,12 +1,7 @@
 -- No result file is longer than the longest: that of 1,500 requests, 132,016 bytes. So a room of that length takes every one.
-use Prim.Native.Nat.{ℕ, ◌+◌, ◌≤◌}
-use native.Mathlib.Omega.{arith}
-use mathlib.Core.Path.{◌≡◌, refl, ap, ◌∙◌}
-use mathlib.Core.List.{List}
-use lib.ListN.{length, take, drop}
+use Rattle.std.proofs.Common.{ℕ, ◌+◌, ◌≤◌, arith, ◌≡◌, refl, sym, ap, ◌∙◌, List, length, take, drop, length-take-le}
 use lib.Seq.{take-append_seam}
-use Rattle.io.specs.Counts.{IsPrefixLen}
-use Rattle.io.proofs.Counting.{prefix_len_of_le}
+use Rattle.std.specs.Counts.{IsPrefixLen}
 use Rattle.files_words.specs.Bytes.{as_bytes, put}
 use Rattle.files_words.proofs.WordLaws.{length-as_bytes}
 use Rattle.files_words.proofs.PutLaws.{put_fits, length-put}
@@ -27,7 +22,8 @@ longest file = longest_by file (reading_of file) refl
 
 -- What stands at the start of a room that bytes were put to, where there is room for them.
 pub put_first : (room bytes : List ℕ) → length bytes ≤ length room → IsPrefixLen (length bytes) (put room 0 bytes) × (take (length bytes) (put room 0 bytes) ≡ bytes)
-put_first room bytes h = (
-  prefix_len_of_le (length bytes) (put room 0 bytes) (omega (arith, length-put room bytes 0 (omega arith))),
-  ap (take (length bytes)) (put_fits room bytes 0 (omega arith)) ∙ take-append_seam bytes (drop (0 + length bytes) room),
-)
+put_first room bytes h =
+    let fits : length bytes ≤ length (put room 0 bytes) = omega (arith, length-put room bytes 0 (omega arith)) in (
+      (fits, sym (length-take-le (length bytes) (put room 0 bytes) fits)),
+      ap (take (length bytes)) (put_fits room bytes 0 (omega arith)) ∙ take-append_seam bytes (drop (0 + length bytes) room),
+    )

@@ -1,18 +1,8 @@
--- What POSIX promises of an answer, as what a loop needs of it.
-use Prim.Native.Nat.{ℕ, zero, suc, ◌+◌, ◌-◌, ◌<◌, ◌≤◌}
-use native.Mathlib.Omega.{arith}
-use mathlib.Core.Bool.{Bool, true, false}
-use mathlib.Core.Path.{◌≡◌, refl, sym, ap, subst, ◌∙◌}
-use mathlib.Core.List.{List}
+-- What is promised of an answer, as what a loop needs of it.
+use Rattle.std.proofs.Common.{ℕ, zero, suc, ◌+◌, ◌-◌, ◌<◌, ◌≤◌, Bool, true, false, ◌≡◌, refl, sym, subst, ◌∙◌, List, eqb, ℤ, pos, negsuc, arith}
+use Rattle.std.specs.Counts.{IsPrefixLen}
 use borrow.Author.Tests.{eqb-false}
-use lib.Dec.{eqb}
-use lib.IntN.{ℤ, pos, negsuc}
-use mir.Syntax.{w64}
-use mir.Val.{to_z, of_z, SFits}
-use mir.Facts.{to_z-of_z}
 use Rattle.bits.specs.Choice.{pick}
-use Rattle.io.specs.Counts.{IsPrefixLen}
-use Rattle.libc.specs.Io.{Moved}
 use Rattle.streams.specs.declared.calls.Call.{Call}
 use Rattle.streams.specs.declared.calls.Call.TheVariants as variant
 use Rattle.streams.specs.declared.calls.Then.{Then}
@@ -21,15 +11,19 @@ use Rattle.streams.specs.declared.calls.Taken.{Taken}
 use Rattle.streams.specs.declared.calls.Taken.TheVariants.{Bytes}
 use Rattle.streams.specs.Calls.{call_of, Part, after_of, InRoom}
 
+-- An answer to a call that was handed so many bytes: how many it moved, or -1.
+abbrev pub Moved : (most : ℕ) → (got : ℤ) → Type 0
+Moved most (pos n) = n ≤ most
+Moved most (negsuc n) = n ≡ 0
+
 part_of : (got : ℤ) (signal : Bool) (most : ℕ) → Moved most got → Part (call_of got signal) most
 part_of (pos zero) signal most h = tt
 part_of (pos (suc n)) signal most h = (omega arith, h)
 part_of (negsuc n) true most h = tt
 part_of (negsuc n) false most h = tt
 
--- The machine reads the answer back from its bits.
-pub part : {call : Call} (got : ℤ) (signal : Bool) (most : ℕ) → SFits w64 got → call ≡ call_of (to_z w64 (of_z w64 got)) signal → Moved most got → Part call most
-part got signal most f e h = subst (λ (c : Call). Part c most) (sym (e ∙ ap (λ (z : ℤ). call_of z signal) (to_z-of_z f))) (part_of got signal most h)
+pub part : {call : Call} (got : ℤ) (signal : Bool) (most : ℕ) → call ≡ call_of got signal → Moved most got → Part call most
+part got signal most e h = subst (λ (c : Call). Part c most) (sym e) (part_of got signal most h)
 
 pub moved : {call : Call} {n most : ℕ} → call ≡ variant.Moved n → Part call most → (0 < n) × (n ≤ most)
 moved {most = most} e p = subst (λ (c : Call). Part c most) e p

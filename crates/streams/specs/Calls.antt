@@ -1,8 +1,8 @@
--- What the answer of one call of read or write means, by POSIX: how many bytes it moved, 0 where it moved none, or -1 with a reason
--- in errno; and what a loop does after it.
+-- What the answer of one call of read or write means: how many bytes it moved, 0 where it moved none, or -1 where it failed, and whether
+-- a signal was the reason; and what a loop does after it.
 use Rattle.std.specs.Prelude.{ℕ, zero, suc, ◌-◌, ◌<◌, ◌≤◌, ◌≡◌, Bool, true, false, List, eqb, ℤ, pos, negsuc, length}
 use Rattle.bits.specs.Choice.{pick}
-use Rattle.io.specs.Counts.{IsPrefixLen}
+use Rattle.std.specs.Counts.{IsPrefixLen}
 use Rattle.streams.specs.declared.calls.Call.{Call}
 use Rattle.streams.specs.declared.calls.Call.TheVariants as call
 use Rattle.streams.specs.declared.calls.Then.{Then}

@@ -1,2 +1,2 @@
--- What the answer of a call of the C library means.
+-- What the answer of a call of read or write means.
 pub mod Calls

@@ -20,7 +20,7 @@ pub enum Then {
     GiveUp,
 }
 
-// What was moved: so many bytes, or a call failed, and errno says why.
+// What was moved: so many bytes, or a call failed. The reader or writer has said why.
 #[derive(Clone, Copy)]
 pub enum Taken {
     Bytes(usize),
@@ -31,7 +31,7 @@ pub enum Taken {
 // signals do.
 pub const PATIENCE: u64 = 1_000_000;
 
-// What a call that answered `got` has done; where `got` is -1, errno says whether it was a signal.
+// What a call that answered `got` has done; where `got` is -1, `signal` says whether it was a signal.
 pub fn call_of(got: isize, signal: bool) -> Call
     ensures { result ≡ call_of got signal }
 {

@@ -3,18 +3,20 @@ ghost use Rattle.std.specs.Prelude.{length};
 ghost use Rattle.streams.specs.Calls.{Part, InRoom};
 
 use super::calls::{Call, PATIENCE, Taken, Then, after, call_of};
-use libc::EINTR;
+use std::io::{ErrorKind, Read};
 
 // One read, to the start of the room.
-fn read_some(fd: i32, room: &mut [u8]) -> Call
+fn read_some<R: Read>(input: &mut R, room: &mut [u8]) -> Call
     ensures { Part result (length room.old) }
 {
-    let got = libc::read(fd, room);
-    call_of(got, os::errno() == EINTR)
+    match input.read(room) {
+        Ok(got) => call_of(got as isize, false),
+        Err(error) => call_of(-1, error.kind() == ErrorKind::Interrupted),
+    }
 }
 
 // Reads until the input ends or the room is full. The bytes stand at the start of the room.
-pub fn read_whole(fd: i32, room: &mut [u8]) -> Taken
+pub fn read_whole<R: Read>(input: &mut R, room: &mut [u8]) -> Taken
     ensures { InRoom result room.new }
 {
     let size = room.len();
@@ -22,7 +24,7 @@ pub fn read_whole(fd: i32, room: &mut [u8]) -> Taken
     let mut patience = PATIENCE;
     while 0 < left {
         let n = size - left;
-        let call = read_some(fd, &mut room[n..]);
+        let call = read_some(input, &mut room[n..]);
         match after(call, left, patience) {
             Then::On {
                 left: rest,

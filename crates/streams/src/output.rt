@@ -3,18 +3,20 @@ ghost use Rattle.std.specs.Prelude.{length};
 ghost use Rattle.streams.specs.Calls.{Part, All};
 
 use super::calls::{Call, PATIENCE, Taken, Then, after, call_of};
-use libc::EINTR;
+use std::io::{ErrorKind, Write};
 
 // One write, of the first bytes.
-fn write_some(fd: i32, bytes: &[u8]) -> Call
+fn write_some<W: Write>(output: &mut W, bytes: &[u8]) -> Call
     ensures { Part result (length bytes.now) }
 {
-    let put = libc::write(fd, bytes);
-    call_of(put, os::errno() == EINTR)
+    match output.write(bytes) {
+        Ok(put) => call_of(put as isize, false),
+        Err(error) => call_of(-1, error.kind() == ErrorKind::Interrupted),
+    }
 }
 
 // Writes all of the bytes, or stops at a call that fails or takes nothing. Some of the bytes may be written then.
-pub fn write_whole(fd: i32, bytes: &[u8]) -> Taken
+pub fn write_whole<W: Write>(output: &mut W, bytes: &[u8]) -> Taken
     ensures { All result bytes.now }
 {
     let size = bytes.len();
@@ -22,7 +24,7 @@ pub fn write_whole(fd: i32, bytes: &[u8]) -> Taken
     let mut patience = PATIENCE;
     while 0 < left {
         let n = size - left;
-        let call = write_some(fd, &bytes[n..]);
+        let call = write_some(output, &bytes[n..]);
         match after(call, left, patience) {
             Then::On {
                 left: rest,
