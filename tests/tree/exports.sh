@@ -15,7 +15,8 @@ fail() {
     exit 1
 }
 
-[ "$(find crates/kelubashi_c/src -type f)" = crates/kelubashi_c/src/lib.rt ] || fail 'crates/kelubashi_c/src has another file than lib.rt: its exports stand there alone'
+[ "$(find crates/kelubashi_c/src -type f)" = crates/kelubashi_c/src/lib.rt ] ||
+    fail 'crates/kelubashi_c/src has another file than lib.rt: its exports stand there alone'
 [ ! -d crates/kelubashi_c/specs ] || fail 'crates/kelubashi_c has definitions of its own: its clauses are in the words of the crates below'
 grep -qE '^kelubashi_c staticlib:.* kelubashi( |$)' crates.txt || fail 'crates.txt does not have kelubashi_c as a static library over kelubashi'
 

@@ -52,7 +52,7 @@ done
 
 for name in $(awk '/^ *- caught by:/ { on = 1 } /^ *- / && !/caught by:/ { on = 0 } /^$/ { on = 0 } on { print }' $map |
     grep -o '`[a-z0-9]*_[a-z0-9_]*`' | tr -d '`' | sort -u); do
-    [ -n "$(find crates tests/wrong -name "$name.edit")" ] || say "$map names $name, and there is no wrong program of that name"
+    [ -n "$(find crates/*/must-fail tests/wrong -name "$name.edit")" ] || say "$map names $name, and there is no wrong program of that name"
 done
 
 # ---- What a wrong program takes out.
@@ -67,4 +67,4 @@ for edit in crates/*/must-fail/*.edit tests/wrong/*/*.edit; do
 done
 
 [ $wrong = 0 ] || exit 1
-echo "map: $(find crates -name '*.edit' | wc -l) wrong programs for the gate and $(find tests/wrong -name '*.edit' | wc -l) more, each of a promise, and each fits its crate"
+echo "map: $(find crates/*/must-fail -name '*.edit' | wc -l) wrong programs for the gate and $(find tests/wrong -name '*.edit' | wc -l) more, each of a promise, and each fits its crate"
