@@ -1,7 +1,7 @@
 #!/bin/sh
 # The archive's crate is thin: kelubashi_c exports each function of kelubashi, and nothing else, with the same parameters and the same clauses, whose words
-# come from the same modules, and does nothing but call it with its own parameters in their order. So what is held of kelubashi's functions by promises.sh,
-# by its laws and by the wrong programs is held of the exports, whose clauses rt has proved.
+# come from the same modules, and does nothing but call it with its own parameters in their order; and each has the law that its clauses leave one answer. So
+# what is held of kelubashi's functions by promises.sh and by the wrong programs is held of the exports, whose clauses and laws rt has proved.
 set -eu
 cd "${TREE:-$(dirname "$0")/../..}"
 here=$(dirname "$0")
@@ -37,4 +37,9 @@ comm -13 "$room/library.use" "$room/archive.use" >"$room/foreign"
 # name(a: A, b: B) -> .. is called as name(a, b)
 sed 's/^\([a-z0-9_]*\) (\(.*\)) -> u64 .*/\1 \2/; s/: [^,]*//g; s/^\([a-z0-9_]*\) \(.*\)/\1 kelubashi::\1(\2)/' "$room/archive.promise" | sort >"$room/calls"
 diff "$room/calls" "$room/archive.body" || fail 'the calls that exports should make are marked <, and what they do is marked >'
-echo "exports: the archive has kelubashi's $(wc -l <"$room/calls") functions and nothing else, each with its clauses"
+# rt refuses a file of proofs that no line in proofs/Lib.antt names.
+while read -r name _; do
+    awk -v crate=kelubashi_c -v path="$name" -f "$here/law.awk" crates/kelubashi_c/proofs/OneAnswers.antt ||
+        fail "no law in crates/kelubashi_c/proofs/OneAnswers.antt says of $name alone that any two answers are equal"
+done <"$room/calls"
+echo "exports: the archive has kelubashi's $(wc -l <"$room/calls") functions and nothing else, each with its clauses and one answer"

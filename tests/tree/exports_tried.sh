@@ -15,9 +15,10 @@ fail() {
 # Both crates as they are, with the archive's changed by this sed script.
 with() {
     rm -rf "$room/crates"
-    mkdir -p "$room/crates/kelubashi/src" "$room/crates/kelubashi_c/src"
+    mkdir -p "$room/crates/kelubashi/src" "$room/crates/kelubashi_c/src" "$room/crates/kelubashi_c/proofs"
     cp crates.txt "$room"
     cp crates/kelubashi/src/lib.rt "$room/crates/kelubashi/src"
+    cp crates/kelubashi_c/proofs/OneAnswers.antt "$room/crates/kelubashi_c/proofs"
     sed "$1" crates/kelubashi_c/src/lib.rt >"$room/crates/kelubashi_c/src/lib.rt"
 }
 
@@ -42,4 +43,8 @@ told 'a function is not exported' '/compared, row by row/{n;d}'
 told 'an export is gone' '/compared, row by row/,$d'
 told 'there is an export more' '$a\#[unsafe(no_mangle)]\npub extern "C" fn kelubashi1_more(word: u64) -> u64 {\n    word\n}'
 told 'there is another item' '$a\mod answers;'
+with ''
+sed -i 's/^pub root_one : .*/pub root_one : Unit {0}/' "$room/crates/kelubashi_c/proofs/OneAnswers.antt"
+! TREE=$room sh "$here/tests/tree/exports.sh" >"$room/said" 2>&1 || fail 'it is not told that a law is gone'
+tried=$((tried + 1))
 echo "exports: of $tried archives that are wrong, each in another way, all are told"

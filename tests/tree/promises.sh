@@ -42,32 +42,11 @@ if [ "${1:-}" = list ]; then
     exit
 fi
 
-# The law of a function: its whole type is OneAnswer of the function's own kinds and of its contract as it stands, or OneAnswerOf where it is
-# proved by a walk of its code; it stands under no premise, and rt has checked it.
+# The law of a function, which rt has checked.
 law() {
     laws=crates/$1/proofs/OneAnswers.antt
-    [ -f "$laws" ] && grep -q "^\[\"Rattle-$1-proofs\.OneAnswers\"," "crates/$1/out/rlib/$1.rlib/toolchain/checked.json" || return 1
-    awk -v from="Rattle.$1.proofs.$2" -v contract="Rattle.$1.specs.contracts.$2" '
-        /^ *module / { bad = 1 }
-        /^((abbrev|unfoldable|opaque|data|record|pub) )*OneAnswer(Of)? / { bad = 1 }
-        /^ *(pub |open |unfoldable )*use .*OneAnswer/ && !/^use Rattle\.bits\.specs\.OneAnswer\.[{]OneAnswer(, OneAnswerOf)?[}]$/ { bad = 1 }
-        $1 == "use" && $3 == "as" {
-            if ($4 in named) bad = 1
-            named[$4] = $2
-        }
-        wanted != "" { if ($1 == wanted) found = 1; wanted = "" }
-        /^pub [^ ]+ : OneAnswer [0-9]+ [^ ]+\.ps [^ ]+\.r [^ ]+\.Post$/ {
-            kinds = $6; sub(/\.ps$/, "", kinds)
-            again = $7; sub(/\.r$/, "", again)
-            reads = $8; sub(/\.Post$/, "", reads)
-            if (kinds == again && named[kinds] == from ".Kinds" && named[reads] == from ".Reads") wanted = $2
-        }
-        /^pub [^ ]+ : [{]M : Type 1[}] → OneAnswerOf M [^ ]+\.ended [^ ]+\.clauses$/ {
-            ended = $(NF - 1); sub(/\.ended$/, "", ended)
-            clauses = $NF; sub(/\.clauses$/, "", clauses)
-            if (ended == clauses && named[ended] == contract) wanted = $2
-        }
-        END { exit !(found && !bad) }' "$laws"
+    [ -f "$laws" ] && grep -q "^\[\"Rattle-$1-proofs\.OneAnswers\"," "crates/$1/out/rlib/$1.rlib/toolchain/checked.json" &&
+        awk -v crate="$1" -v path="$2" -f "$here/law.awk" "$laws"
 }
 
 while read -r crate path shown promised asks; do
