@@ -19,7 +19,7 @@ STRICT = -std=c99 -Wall -Wextra -pedantic -Werror -O2 -ffp-contract=off
 # One step at a time, in the order written: what is cheap to find wrong comes before what takes minutes.
 .NOTPARALLEL:
 .PHONY: run state check test wrong tables fuzz bench accuracy program command lib install install-files uninstall clean
-.PHONY: kit layout map promises proved made verdict prefix machine header edition readme refusals selfcheck facts installed tried commanded sanitized
+.PHONY: kit layout columns map promises proved made verdict prefix machine header edition readme refusals selfcheck facts installed tried commanded sanitized
 
 # What make run shows.
 ELEMENTS = examples/orbits.elements
@@ -55,7 +55,7 @@ TESTS = $(COMPARISONS) $(SELFTEST) $(GUIDED) build/tests/compared/root build/tes
 # ---- What must hold.
 
 # rt ci judges the tree as it stands; what it proved of the same files on this machine it takes again. Its last line is held back until the tests have passed.
-check: layout made header verdict promises map test
+check: columns made header verdict promises map test
 	@cat build/verdict
 
 verdict: kit
@@ -85,8 +85,11 @@ machine:
 
 # ---- What is asked of the tree.
 
-layout: kit
+# rt ci refuses what is not laid out; this tells it in seconds.
+layout: kit columns
 	@sh tests/tree/layout.sh
+
+columns:
 	@sh tests/tree/columns.sh
 
 # These two ask what rt has made of the crates. rt ci keeps what it proved for itself, and so they are proved for these and for what C links.

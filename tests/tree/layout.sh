@@ -1,6 +1,6 @@
 #!/bin/sh
-# Every crate is laid out as rt fmt does it. rt fmt writes, so it is run in a copy, and what it would change is told; rt ci refuses it too, but only when it
-# comes to the crate.
+# Every crate is laid out as rt fmt does it. rt fmt writes, so it is run in a copy, and what it would change is told. rt ci refuses it too, when it comes to the
+# crate.
 set -eu
 cd "$(dirname "$0")/../.."
 room=$(mktemp -d)
