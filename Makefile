@@ -11,19 +11,15 @@
 # make program  build/propagate, the program, for x86-64, proved
 # make lib      build/libkelubashi.a, for x86-64, from proved crates only
 # make install  what a station needs, under PREFIX: make install PREFIX=/usr/local DESTDIR=; make uninstall takes it away
-# make clean    remove build/ and rt's target/
+# make clean    remove build/ and what rt keeps in crates/*/out/
 
 X86 = sh tests/machine/x86.sh
 STRICT = -std=c99 -Wall -Wextra -pedantic -Werror -O2 -ffp-contract=off
 
-# rt proves so many crates of a level, or tries so many wrong programs, at a time, and then waits for the longest: with more of them than
-# processors, none of these is idle for long.
-export RT_JOBS = 6
-
 # One step at a time, in the order written: what is cheap to find wrong comes before what takes minutes.
 .NOTPARALLEL:
 .PHONY: run state check test wrong tables fuzz bench accuracy program command lib install install-files uninstall clean
-.PHONY: kit layout map promises made verdict prefix machine header edition readme refusals selfcheck facts installed tried commanded sanitized
+.PHONY: kit layout columns map promises proved made verdict prefix machine header edition readme refusals selfcheck facts installed tried commanded sanitized
 
 # What make run shows.
 ELEMENTS = examples/orbits.elements
@@ -58,8 +54,8 @@ TESTS = $(COMPARISONS) $(SELFTEST) $(GUIDED) build/tests/compared/root build/tes
 
 # ---- What must hold.
 
-# rt ci proves everything once, from nothing; what the C tests link is made of that. Its last line is held back until they have passed.
-check: layout made header verdict promises map test
+# rt ci judges the tree as it stands; what it proved of the same files on this machine it takes again. Its last line is held back until the tests have passed.
+check: columns made header verdict promises map test
 	@cat build/verdict
 
 verdict: kit
@@ -89,16 +85,24 @@ machine:
 
 # ---- What is asked of the tree.
 
-layout: kit
-	@rt fmt --check || { echo 'layout: run rt fmt, and look at what it changed'; exit 1; }
+# rt ci refuses what is not laid out; this tells it in seconds.
+layout: kit columns
+	@sh tests/tree/layout.sh
+
+columns:
 	@sh tests/tree/columns.sh
 
-# These two ask what rt has proved.
-promises: kit
+# These two ask what rt has made of the crates. rt ci keeps what it proved for itself, and so they are proved for these and for what C links.
+proved: kit
+	@sh tests/machine/prove.sh proved
+
+promises: proved
 	@sh tests/tree/promises.sh
 	@sh tests/tree/promises_tried.sh
+	@sh tests/tree/exports.sh
+	@sh tests/tree/exports_tried.sh
 
-map: kit
+map: proved
 	@sh tests/tree/map.sh
 
 made: machine
@@ -142,22 +146,18 @@ commanded: machine command build/tests/command/faulty build/tests/command/second
 # ---- The library, the program and the command.
 
 # What an archive or a program is proved from: its crate, the crates that it uses, and theirs.
-sources = $(shell find crates.txt $(addprefix crates/,$(shell sh tests/tree/crates.sh below $(1))) ! -path '*/must-fail*')
+sources = $(shell find crates.txt $(foreach crate,$(shell sh tests/tree/crates.sh below $(1)),$(addprefix crates/$(crate)/,src specs proofs)) 2>/dev/null)
 
-# By the sources' times, and then by rt, which knows by content what target/ has proved already. What the library
-# rests on comes first, since rt proves that side by side, and for an archive one crate after another. rt ci removes
-# target/, so a copy stays in build/ for the hosts.
+# By the sources' times, and then by rt, which knows by content what it has proved already. The archive is kelubashi_c's, whose exports are kelubashi's
+# functions; it has kelubashi's name.
 lib: kit build/libkelubashi.a
-build/libkelubashi.a: $(call sources,kelubashi)
-	@sh tests/machine/prove.sh library $$(sh tests/tree/crates.sh below kelubashi | grep -vx kelubashi)
-	@echo 'library: build/libkelubashi.a is made of kelubashi, which is proved with it'
-	@rt staticlib kelubashi >build/library.log 2>&1 || { cut -c 1-1500 build/library.log; exit 1; }
-	@cp target/staticlib/libkelubashi.a build/
+build/libkelubashi.a: $(call sources,kelubashi_c)
+	@sh tests/machine/prove.sh library archive kelubashi_c $@
+	@echo 'library: build/libkelubashi.a is made of kelubashi_c, which is proved with it'
 
 program: kit build/propagate
 build/propagate: $(call sources,propagate)
-	@sh tests/machine/prove.sh program $$(sh tests/tree/crates.sh below propagate)
-	@cp target/bin/propagate build/
+	@sh tests/machine/prove.sh program program propagate $@
 
 command: build/kelubashi
 
@@ -296,4 +296,4 @@ prefix:
 	@case "$$PREFIX" in *[!A-Za-z0-9/._+-]*) echo "install: PREFIX is '$$PREFIX': give one of letters, digits and / . _ + - alone" >&2; exit 1 ;; esac
 
 clean:
-	rm -rf build target
+	rm -rf build crates/*/out

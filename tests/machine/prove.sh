@@ -1,48 +1,51 @@
 #!/bin/sh
-# Has rt prove crates, with a line for each as it is proved: prove.sh WHO CRATE.., where the crates that one uses are among those named.
-# Each begins as soon as those that it uses are proved: rt by itself goes level by level, and waits for the longest of each.
-# Where a crate is not proved, what rt says is shown, and the status is 1.
+# Has rt prove crates, as many side by side as there are processors, with a line for each as it is done; then makes what is named.
+#
+#     prove.sh WHO                     every crate of crates.txt
+#     prove.sh WHO archive CRATE FILE  CRATE and those below it; FILE is its static library
+#     prove.sh WHO program CRATE FILE  the same; FILE is its program
+#
+# rt keeps in the folders out/ what it proved, and does it again only where it changed. Where a crate is not proved, what rt says is shown, and the status is 1.
+# Archive and program are for any x86-64: rt's own choice of a processor is a newer one.
 set -eu
 cd "$(dirname "$0")/../.."
+top=$PWD
+who=$1 what=${2:-all} crate=${3:-} file=${4:-}
+log=$top/build/prove.$who.log
+mkdir -p build
 
-# One crate. rt keeps notes in target/log that two at a time must not share, so each has a folder of its own, which shares the rest.
-one() {
-    who=$1 crate=$2 all=$3 folder=$PWD/build/prove/$2
-    mkdir -p "$folder/target"
-    cp crates.txt "$folder"
-    ln -s "$PWD/crates" "$folder/crates"
-    ln -s "$PWD/target/rlib" "$PWD/target/stamp" "$PWD/target/obj" "$PWD/target/bin" "$folder/target"
-    if ! (cd "$folder" && rt check "$crate") >"$folder/said" 2>&1; then
-        cut -c 1-1500 "$folder/said"
-        echo "$who: $crate is not proved" >&2
-        exit 1
-    fi
-    touch "$folder/proved"
-    took=$(sed -n "s/^rt: $crate proved (\([0-9]* s\))\$/\1/p" "$folder/said")
-    [ -z "$took" ] || echo "$who: $(find build/prove -name proved | wc -l) of $all: $crate is proved, in $took"
-}
+if [ "$what" = all ]; then
+    folder=. all=$(grep -c '^[a-z_0-9]*[^#]*:' crates.txt)
+else
+    folder=crates/$crate all=$(sh tests/tree/crates.sh below "$crate" | wc -l)
+fi
+echo "$who: rt proves $((all)) crates, those that it has not proved yet"
 
-if [ "$1" = one ]; then
-    shift
-    one "$@"
-    exit
+# Lines as they come; the status is in the file, since a pipe has that of its last.
+cd "$folder"
+{ rt all check --jobs "$(getconf _NPROCESSORS_ONLN)" 2>&1 && echo 'proved by rt'; } | tee "$log" |
+    awk -v who="$who" -v all=$((all)) '/^== / && $2 != "summary" { printf "%s: %d of %d: %s\n", who, ++count, all, $2; fflush() }'
+if [ "$(tail -n 1 "$log")" != 'proved by rt' ]; then
+    # what rt says of those that are not proved, and its summary
+    awk '
+        NR == FNR { if (/^== summary/) on = 1; if (on && /: failed/) { sub(/:.*/, ""); bad[$0] = 1 } next }
+        FNR == 1 { show = !on }
+        /^== / { show = $2 in bad || $2 == "summary" }
+        show' "$log" "$log" | cut -c 1-1500
+    echo "$who: not all is proved: $log has what rt says" >&2
+    exit 1
 fi
 
-who=$1
-shift
-rm -rf build/prove
-mkdir -p build/prove target/rlib target/stamp target/obj target/bin
-echo "$who: rt proves $# crates, those that target/ does not have yet"
-awk -v who="$who" -v named=" $* " -v all=$# '
-    BEGIN { print ".PHONY:" named "\nall:" named }
-    { sub(/#.*/, "") }
-    /:/ {
-        name = $1
-        sub(/:.*/, "", name)
-        if (index(named, " " name " ") == 0) next
-        line = name ":"
-        many = split(substr($0, index($0, ":") + 1), uses, " ")
-        for (i = 1; i <= many; i++) if (index(named, " " uses[i] " ") > 0) line = line " " uses[i]
-        print line "\n\t@sh tests/machine/prove.sh one " who " " name " " all
-    }' crates.txt >build/prove/rules
-make --no-print-directory -j "$(getconf _NPROCESSORS_ONLN)" -f build/prove/rules all
+case $what in
+archive)
+    rt lib --cpu=x86-64 >"$log" 2>&1 || { cut -c 1-1500 "$log"; echo "$who: rt does not make the static library of $crate" >&2; exit 1; }
+    cp "out/lib$crate.a" "$top/$file"
+    ;;
+program)
+    # rt runs what it makes. Where this machine cannot run it, it is made all the same, and the tests run it
+    rm -f "out/$crate"
+    rt run --cpu=x86-64 </dev/null >"$log.out" 2>"$log" || true
+    grep -q '^rt: running ' "$log" && [ -f "out/$crate" ] || { cut -c 1-1500 "$log"; echo "$who: rt does not make the program of $crate" >&2; exit 1; }
+    cp "out/$crate" "$top/$file"
+    ;;
+esac

@@ -52,53 +52,19 @@ done
 
 for name in $(awk '/^ *- caught by:/ { on = 1 } /^ *- / && !/caught by:/ { on = 0 } /^$/ { on = 0 } on { print }' $map |
     grep -o '`[a-z0-9]*_[a-z0-9_]*`' | tr -d '`' | sort -u); do
-    [ -n "$(find crates tests/wrong -name "$name.edit")" ] || say "$map names $name, and there is no wrong program of that name"
+    [ -n "$(find crates/*/must-fail tests/wrong -name "$name.edit")" ] || say "$map names $name, and there is no wrong program of that name"
 done
 
 # ---- What a wrong program takes out.
-
-# As rt applies an edit: each line old: with the line new: behind it. A line for each text that does not stand once in its file, as the
-# pairs before have left that, and for each half of a pair.
-misfits() {
-    awk -v crate="$1" '
-        function times(    rest, at, count) {
-            count = 0
-            for (rest = text[path]; (at = index(rest, taken)) > 0; rest = substr(rest, at + length(taken))) count++
-            return count
-        }
-        /^file: / {
-            path = crate "/" substr($0, 7)
-            if (!(path in text)) {
-                while ((getline line <path) > 0) text[path] = text[path] line "\n"
-                close(path)
-            }
-        }
-        /^old: / {
-            if (taken != "") print "has no line new: behind it: " taken
-            taken = substr($0, 6)
-        }
-        /^new:/ {
-            if (taken == "") print "is missing, before: " $0
-            else if (times() != 1) print "stands " times() " times in " path ": " taken
-            else {
-                at = index(text[path], taken)
-                put = substr($0, 5)
-                sub(/^ /, "", put)
-                text[path] = substr(text[path], 1, at - 1) put substr(text[path], at + length(taken))
-            }
-            taken = ""
-        }
-        END { if (taken != "") print "has no line new: behind it: " taken }' "$2"
-}
 
 for edit in crates/*/must-fail/*.edit tests/wrong/*/*.edit; do
     case $edit in
     crates/*) crate=$(echo "$edit" | cut -d / -f 1,2) ;;
     *) crate=crates/$(echo "$edit" | cut -d / -f 3) ;;
     esac
-    said=$(misfits "$crate" "$edit")
+    said=$(awk -v crate="$crate" -f tests/tree/edited.awk "$edit")
     [ -z "$said" ] || say "$edit: what it takes out $said"
 done
 
 [ $wrong = 0 ] || exit 1
-echo "map: $(find crates -name '*.edit' | wc -l) wrong programs for the gate and $(find tests/wrong -name '*.edit' | wc -l) more, each of a promise, and each fits its crate"
+echo "map: $(find crates/*/must-fail -name '*.edit' | wc -l) wrong programs for the gate and $(find tests/wrong -name '*.edit' | wc -l) more, each of a promise, and each fits its crate"

@@ -1,5 +1,5 @@
-# What a library crate shows to others, read off what rt has made of its source: target/rlib/CRATE.rlib/lang/src, where an item is a line, a
-# contract follows in indented lines, and a comment is gone.
+# What a library crate shows to others, read off what rt has made of its source: out/rlib/CRATE.rlib/lang/src, where an item is a line, a contract follows in
+# indented lines, attributes stand before what they are of, and comments and bodies are gone.
 #
 #     awk -v crate=CRATE -v crates=' NAME NAME .. ' -v base=FOLDER -f shown.awk FILE..
 #
@@ -10,6 +10,7 @@
 function module_of(file) {
     sub(/^.*\/lang\/src\//, "", file)
     sub(/\.rt$/, "", file)
+    sub(/\/mod$/, "", file)
     if (file == "lib") return ""
     gsub(/\//, ".", file)
     return file
@@ -33,6 +34,55 @@ function seen_from(module, path,    parts, many, i, found) {
     return found
 }
 
+# A line without the attributes before it, whose words stand apart: # [ .. ] with brackets and texts inside.
+function without_attributes(line,    at, depth, letter, quoted) {
+    while (line ~ /^# !? ?\[ /) {
+        depth = quoted = 0
+        for (at = 1; at <= length(line); at++) {
+            letter = substr(line, at, 1)
+            if (quoted && letter == "\\") at++
+            else if (letter == "\"") quoted = !quoted
+            else if (!quoted && letter == "[") depth++
+            else if (!quoted && letter == "]" && --depth == 0) break
+        }
+        line = substr(line, at + 1)
+        sub(/^ +/, "", line)
+    }
+    return line
+}
+
+# Notes what a pub use brings: a path, one with another name, or a list of these in braces, with the path before it.
+function brings(before, text,    at, depth, letter, item, list) {
+    text = text ","
+    for (at = 1; at <= length(text); at++) {
+        letter = substr(text, at, 1)
+        if (letter == "{") depth++
+        if (letter == "}") depth--
+        if (letter != "," || depth > 0) { item = item letter; continue }
+        if (item ~ /[{]/) {
+            list = item
+            sub(/^[^{]*[{]/, "", list)
+            sub(/[}][^}]*$/, "", list)
+            sub(/[{].*$/, "", item)
+            brings(before item, list)
+        } else if (item ~ /[^ ]/) brings_one(before item)
+        item = ""
+    }
+}
+
+function brings_one(path,    alias) {
+    if (path ~ / as /) { alias = path; sub(/^.* as /, "", alias); sub(/ as .*/, "", path) }
+    gsub(/ /, "", path)
+    gsub(/ /, "", alias)
+    sub(/::self$/, "", path)
+    if (path !~ /^[A-Za-z0-9_:]+$/) { trouble("pub use " path " cannot be followed: name each item"); return }
+    if (alias == "") { alias = path; sub(/^.*::/, "", alias) }
+    count++
+    from[count] = module
+    to[count] = path
+    under[count] = within(module, alias)
+}
+
 function trouble(text) { print "! " crate ": " text }
 
 FNR == 1 { module = module_of(FILENAME); depth = 0; type = ""; open_function = ""; ghost = 0 }
@@ -44,13 +94,13 @@ ghost { if (/;$/) ghost = 0; next }
 # A contract stands in the lines behind the function's own.
 /^ / {
     if (open_function != "") {
-        if ($1 == "ensures") promised[open_function] = 1
-        if ($1 == "requires") asks[open_function] = 1
+        if ($1 ~ /^ensures\*?$/) promised[open_function] = 1
+        if ($1 ~ /^requires\*?$/) asks[open_function] = 1
     }
     next
 }
 
-{ open_function = "" }
+{ open_function = ""; $0 = without_attributes($0) }
 
 /^}/ {
     if (depth == 0) { trouble(FILENAME ": a bracket closes that none opens: " $0); next }
@@ -68,21 +118,12 @@ ghost { if (/;$/) ghost = 0; next }
     next
 }
 
-/^impl / { depth++; kept_type[depth] = type; kept_module[depth] = module; type = $2; next }
+/^impl [A-Za-z0-9_]+ [{]$/ { depth++; kept_type[depth] = type; kept_module[depth] = module; type = $2; next }
 
 /^pub use / {
-    path = $0
-    alias = ""
-    sub(/^pub use /, "", path)
-    sub(/ *;$/, "", path)
-    if (path ~ / as /) { alias = path; sub(/^.* as /, "", alias); sub(/ as .*/, "", path) }
-    gsub(/ /, "", path)
-    if (path !~ /^[A-Za-z0-9_:]+$/) { trouble("pub use " path " cannot be followed: name one item"); next }
-    if (alias == "") { alias = path; sub(/^.*::/, "", alias) }
-    count++
-    from[count] = module
-    to[count] = path
-    under[count] = within(module, alias)
+    sub(/^pub use /, "")
+    sub(/ *;$/, "")
+    brings("", $0)
     next
 }
 
@@ -96,16 +137,16 @@ ghost { if (/;$/) ghost = 0; next }
     where = within(module, type == "" ? name : type "." name)
     open_function = where
     functions[where] = 1
-    exported = /extern "C"/
-    if (/(^|\] )pub (const |extern "C" )*fn /) {
+    if (/^pub (const |unsafe |extern "C" )*fn /) {
         public[where] = 1
-        if (type != "" || exported) taken[where] = 1     # a method goes with its value; a C call is in the archive
-    } else if (exported) trouble(where ": a C call that is not public")
+        if (type != "") taken[where] = 1     # a method goes with its value
+    }
+    if (/extern "C"/) trouble(where ": a C call of a library is in no archive: it belongs into kelubashi_c")
     if (/;$/) open_function = ""
     next
 }
 
-/^(use|const|struct|enum|type|static|#) / { next }
+/^(use|const|struct|enum|type|static) / { next }
 NF > 0 { trouble(FILENAME ": this line is not known here: " substr($0, 1, 80)) }
 
 # Takes up what a path names: a function, a module with all that it shows, or what another use names.
@@ -126,7 +167,7 @@ function follow(i,    first) {
     return index(crates, " " first " ") > 0     # what another crate shows is looked at there
 }
 
-function show(module,    each, many, i) {
+function show(module,    each, many, i, list) {
     if (module in opened) return
     opened[module] = 1
     for (each in functions) if (each in public && parent(each) == module) taken[each] = 1

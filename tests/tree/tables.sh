@@ -7,7 +7,6 @@
 set -eu
 cd "$(dirname "$0")/../.."
 room=build/tables
-rm -rf "$room"
 mkdir -p "$room"
 wrong=0
 
@@ -64,10 +63,10 @@ listed() {
                 promises = substr(line, 1, at - 1)
                 text = substr(line, at + 2)
             }
-            /^file: / { specs = /^file: specs\// }
+            /^file: / { specs = /^file: specs\//; src = /^file: src\// }
             /^old: / {
                 if (specs) definition = 1
-                else if (/ensures|⌜|⌝|\.entry|\.exit/) promise = 1
+                else if (src && /ensures|requires|≡|\.(old|new|now)([^A-Za-z0-9_]|$)/) promise = 1
                 else code = 1
             }
             END {
@@ -79,7 +78,7 @@ listed() {
 
 {
     sed '/^<!-- from here on: made by make tables -->$/q' docs/STATEMENTS.md
-    for crate in $(sed -n 's/^\([a-z_0-9]*\):.*/\1/p' crates.txt); do
+    for crate in $(sed -n 's/^\([a-z_0-9]*\)[^#]*:.*/\1/p' crates.txt); do
         listed "$crate" >"$room/rows"
         [ -s "$room/rows" ] || continue
         printf '\n### `%s`\n\n| Promise | Wrong program | Changed | What is wrong |\n|---|---|---|---|\n' "$crate"

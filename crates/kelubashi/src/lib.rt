@@ -1,5 +1,5 @@
-// The C face: what control programs call. Every number crosses as its 64-bit word and every run as a pointer and a count, so no header can shift a
-// field; the names carry the interface's edition, so a header of another edition does not link.
+// The C face: what control programs call. Every number crosses as its 64-bit word, and every run as a slice, which C hands over as a pointer and a count, so
+// no header can shift a field; the names carry the interface's edition, so a header of another edition does not link. `kelubashi_c` exports each of these.
 #![tactic(auto)]
 
 ghost use Rattle.std.specs.Prelude.{◌≡◌, [], ◌∷◌, length};
@@ -48,8 +48,7 @@ fn roster_of(count: u64, centres: u64) -> Roster
 }
 
 // The square root of the double of a word, to an answer run of one word.
-#[unsafe(no_mangle)]
-pub extern "C" fn kelubashi1_root(word: u64, answer: &mut [u64]) -> u64
+pub fn kelubashi1_root(word: u64, answer: &mut [u64]) -> u64
     ensures number { result ≡ returned 1 answer.old (root_refusal_of word) }
     ensures answer { answer.new ≡ answer_after 1 answer.old (root_word_of word ∷ []) }
 {
@@ -62,8 +61,7 @@ pub extern "C" fn kelubashi1_root(word: u64, answer: &mut [u64]) -> u64
 }
 
 // Position, velocity and accelerations of eight words, to an answer run of fifteen words.
-#[unsafe(no_mangle)]
-pub extern "C" fn kelubashi1_propagate(
+pub fn kelubashi1_propagate(
     mu: u64,
     x: u64,
     y: u64,
@@ -87,8 +85,7 @@ pub extern "C" fn kelubashi1_propagate(
 }
 
 // The same, with the 36 partials to a lent run.
-#[unsafe(no_mangle)]
-pub extern "C" fn kelubashi1_partials(
+pub fn kelubashi1_partials(
     mu: u64,
     x: u64,
     y: u64,
@@ -116,8 +113,7 @@ pub extern "C" fn kelubashi1_partials(
 }
 
 // Where the sections of an element file stand, to an answer run of eight words.
-#[unsafe(no_mangle)]
-pub extern "C" fn kelubashi1_read(file: &[u8], answer: &mut [u64]) -> u64
+pub fn kelubashi1_read(file: &[u8], answer: &mut [u64]) -> u64
     ensures number { result ≡ returned 8 answer.old (number_in (read_words file.now)) }
     ensures answer { answer.new ≡ answer_after 8 answer.old (read_words file.now) }
 {
@@ -130,8 +126,7 @@ pub extern "C" fn kelubashi1_read(file: &[u8], answer: &mut [u64]) -> u64
 }
 
 // Three sections as an element file, to a room, and an answer run of two words.
-#[unsafe(no_mangle)]
-pub extern "C" fn kelubashi1_write(
+pub fn kelubashi1_write(
     centres: &[u64],
     states: &[u64],
     requests: &[u64],
@@ -159,8 +154,7 @@ pub extern "C" fn kelubashi1_write(
 }
 
 // The interval of a request, its time less the epoch of its state, to an answer run of one word.
-#[unsafe(no_mangle)]
-pub extern "C" fn kelubashi1_interval(time: u64, epoch: u64, answer: &mut [u64]) -> u64
+pub fn kelubashi1_interval(time: u64, epoch: u64, answer: &mut [u64]) -> u64
     ensures number { result ≡ returned 1 answer.old 0 }
     ensures answer { answer.new ≡ answer_after 1 answer.old (tau_of time epoch ∷ []) }
 {
@@ -173,8 +167,7 @@ pub extern "C" fn kelubashi1_interval(time: u64, epoch: u64, answer: &mut [u64])
 }
 
 // The result file of an element file, to a room, and an answer run of two words.
-#[unsafe(no_mangle)]
-pub extern "C" fn kelubashi1_results(file: &[u8], room: &mut [u8], answer: &mut [u64]) -> u64
+pub fn kelubashi1_results(file: &[u8], room: &mut [u8], answer: &mut [u64]) -> u64
     ensures number { result ≡ returned 2 answer.old (outcome_of file.now room.old).number }
     ensures answer { answer.new ≡ answer_after 2 answer.old (results_words file.now room.old) }
     ensures lent { room.new
@@ -189,8 +182,7 @@ pub extern "C" fn kelubashi1_results(file: &[u8], room: &mut [u8], answer: &mut 
 }
 
 // The summary of all states, an entry of four words for each centre, to a lent list, and an answer run of two words.
-#[unsafe(no_mangle)]
-pub extern "C" fn kelubashi1_summary(
+pub fn kelubashi1_summary(
     states: &[u64],
     count: u64,
     centres: u64,
@@ -212,8 +204,7 @@ pub extern "C" fn kelubashi1_summary(
 }
 
 // A state appended to those in use, and its centre's entry brought up to date, with an answer run of two words.
-#[unsafe(no_mangle)]
-pub extern "C" fn kelubashi1_append(
+pub fn kelubashi1_append(
     state: &[u64],
     states: &mut [u64],
     count: u64,
@@ -239,8 +230,7 @@ pub extern "C" fn kelubashi1_append(
 }
 
 // A state withdrawn from those in use, and its centre's entry brought up to date, with an answer run of two words.
-#[unsafe(no_mangle)]
-pub extern "C" fn kelubashi1_withdraw(
+pub fn kelubashi1_withdraw(
     which: u64,
     states: &mut [u64],
     count: u64,
@@ -266,8 +256,7 @@ pub extern "C" fn kelubashi1_withdraw(
 }
 
 // A verdict for each row of another station's file, to a lent run, and an answer run of two words.
-#[unsafe(no_mangle)]
-pub extern "C" fn kelubashi1_check(file: &[u8], verdicts: &mut [u64], answer: &mut [u64]) -> u64
+pub fn kelubashi1_check(file: &[u8], verdicts: &mut [u64], answer: &mut [u64]) -> u64
     ensures number { result ≡ returned 2 answer.old (number_in (judged_words (judged_of file.now (length verdicts.old)))) }
     ensures answer { answer.new
         ≡ answer_after 2 answer.old (judged_words (judged_of file.now (length verdicts.old))) }
@@ -283,13 +272,7 @@ pub extern "C" fn kelubashi1_check(file: &[u8], verdicts: &mut [u64], answer: &m
 }
 
 // Two result files compared, row by row to a lent run, and an answer run of seven words.
-#[unsafe(no_mangle)]
-pub extern "C" fn kelubashi1_compare(
-    left: &[u8],
-    right: &[u8],
-    rows: &mut [u64],
-    answer: &mut [u64],
-) -> u64
+pub fn kelubashi1_compare(left: &[u8], right: &[u8], rows: &mut [u64], answer: &mut [u64]) -> u64
     ensures number { result ≡ returned 7 answer.old (number_in (compare_words left.now right.now rows.old)) }
     ensures answer { answer.new
         ≡ answer_after 7 answer.old (compare_words left.now right.now rows.old) }

@@ -1,0 +1,2 @@
+-- What each export leaves open.
+pub mod OneAnswers
