@@ -2,6 +2,7 @@
 use mathlib.Core.Path.{◌≡◌, sym, ◌∙◌}
 use mathlib.Core.List.{List}
 use Prim.Native.Nat.{ℕ, ◌*◌}
+use native.Mathlib.Omega.{arith}
 use borrow.Author.Tests.{eqb-true}
 use lib.ListN.{length}
 use Rattle.files_formats.specs.Rows.{entry_width}
@@ -25,7 +26,7 @@ pub put_entries-requires : goal.put_entries-requires
 put_entries-requires c =
     let a = c.args in
     let lent = (lent_well (length a.states.now) a.roster c.one_each-listed.result 0 (sym c.lent_refusal-number.ensures ∙ c.if-number-eq0.true)).0 in (
-      (lent.few, has_room (length a.states.now) a.roster c.one_each-listed.result lent a.roster.count lent.few),
+      (omega (arith, lent.few), has_room (length a.states.now) a.roster c.one_each-listed.result lent a.roster.count (omega (arith, lent.few))),
       eqb-true (length a.list.now) (a.roster.centres * entry_width) (sym c.one_each-listed.ensures ∙ lent.is_listed),
     )
 
