@@ -12,5 +12,5 @@ pub returns : goal.returns
 returns c =
     let e = rw c.roster_of.ensures at c.append-appended.ensures in
     simp (eq-eqb _ 2 c.if-answer-ne2.false, ← e.change) (
-      record { number = refl; answer = c.copy_words.ensures ∙ copied_all _ _ (omega arith); states = e.states; list = simp (← e.change) at e.list }
+    record { number = refl; answer = c.copy_words.ensures ∙ copied_all _ _ (omega arith); states = e.states; list = simp (← e.change) at e.list }
     )

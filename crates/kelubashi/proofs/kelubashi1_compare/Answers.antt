@@ -12,5 +12,5 @@ pub returns : goal.returns
 returns c =
     let e = c.compare.ensures in
     simp (eq-eqb _ 7 c.if-answer-ne7.false, ← e.comparison, ← c.words_of-words.ensures) (
-      record { number = refl; answer = c.copy_words.ensures ∙ copied_all _ _ (omega arith); lent = e.run }
+    record { number = refl; answer = c.copy_words.ensures ∙ copied_all _ _ (omega arith); lent = e.run }
     )

@@ -12,5 +12,5 @@ pub returns : goal.returns
 returns c =
     let e = c.propagate_with_partials-a.ensures in
     simp (eq-eqb _ 15 c.if-answer-ne15.false, ← e.answer, ← c.words_of-words.ensures) (
-      record { number = refl; answer = c.copy_words.ensures ∙ copied_all _ _ (omega arith); lent = e.lent }
+    record { number = refl; answer = c.copy_words.ensures ∙ copied_all _ _ (omega arith); lent = e.lent }
     )

@@ -12,5 +12,5 @@ pub returns : goal.returns
 returns c =
     let e = c.write_results-outcome.ensures in
     simp (eq-eqb _ 2 c.if-answer-ne2.false, ← e.outcome) (
-      record { number = refl; answer = c.copy_words.ensures ∙ copied_all _ _ (omega arith); lent = e.room }
+    record { number = refl; answer = c.copy_words.ensures ∙ copied_all _ _ (omega arith); lent = e.room }
     )

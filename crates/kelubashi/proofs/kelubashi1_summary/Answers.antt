@@ -12,5 +12,5 @@ pub returns : goal.returns
 returns c =
     let e = rw c.roster_of.ensures at c.summary-number.ensures in
     simp (eq-eqb _ 2 c.if-answer-ne2.false, ← e.number) (
-      record { number = refl; answer = c.copy_words.ensures ∙ copied_all _ _ (omega arith); list = e.list }
+    record { number = refl; answer = c.copy_words.ensures ∙ copied_all _ _ (omega arith); list = e.list }
     )
