@@ -65,7 +65,7 @@ at_once =
     ∷ two ∷ three ∷ 0x4018000000000000 ∷ one ∷ 0x4014000000000000 ∷ 0x4010000000000000
     ∷ 0xc000000000000000 ∷ 0xc008000000000000 ∷ 0xc018000000000000 ∷ []
 
--- Below, a small number n for τ or ψ is the word of n times 2^−1074, and minusZero + n that of its negative: R is 3·ψ − τ, or 2·ψ − τ, in that unit.
+-- Below, a small number n for τ or ψ is the word of n times 2^−1074, and minus_zero + n that of its negative: R is 3·ψ − τ, or 2·ψ − τ, in that unit.
 abbrev pub table : List Case
 table =
     -- P10 and P11: exact.
