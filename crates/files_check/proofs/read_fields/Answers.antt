@@ -3,7 +3,6 @@ use mathlib.Core.List.{append-nil}
 use mathlib.Core.Path.{◌≡◌, refl}
 use native.Mathlib.Omega.{arith}
 use lib.ListN.{length, length-set, drop_of_length-le}
-use Rattle.files_words.specs.Bytes.{word_at}
 use Rattle.files_check.specs.RowsFile.{fields_at}
 use Rattle.files_check.proofs.EachLaws.{start, next}
 use Rattle.files_check.proofs.read_fields.Invariants.{from}

@@ -1,2 +1,0 @@
--- What the walks of `settle`, `append` and `withdraw` share.
-mod Settling
