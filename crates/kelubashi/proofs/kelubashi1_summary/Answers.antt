@@ -1,0 +1,16 @@
+-- A run of another length is left as it was, and the list too; else the number and the count are written.
+use mathlib.Core.Path.{refl, ◌∙◌}
+use native.Mathlib.Omega.{arith}
+use borrow.Author.Tests.{eq-eqb, ne_eqb}
+use Rattle.bits.proofs.RunLaws.{copied_all}
+use Rattle.kelubashi.proofs.kelubashi1_summary.Goals as goal
+
+pub returns-then-answer-ne2 : goal.returns-then-answer-ne2
+returns-then-answer-ne2 c = simp (ne_eqb _ 2 c.if-answer-ne2.true) (record { number = refl; answer = refl; list = refl })
+
+pub returns : goal.returns
+returns c =
+    let e = rw c.roster_of.ensures at c.summary-number.ensures in
+    simp (eq-eqb _ 2 c.if-answer-ne2.false, ← e.number) (
+    record { number = refl; answer = c.copy_words.ensures ∙ copied_all _ _ (omega arith); list = e.list }
+    )
