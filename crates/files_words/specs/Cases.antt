@@ -40,20 +40,20 @@ words_in_file : words_from file 1 ≡ low ∷ high ∷ []
 unfolding words_from
 words_in_file = refl
 
-word-in-file :
+word_in_file :
     (word_at file 1 ≡ low) × (word_at file 9 ≡ high)
     × (word_at file 2 ≡ 0x8801020304050607) × (word_at file 16 ≡ 0x27262524232221f1)
     × (word_at file 17 ≡ 0)
 unfolding word_at
-word-in-file = (refl, refl, refl, refl, refl)
+word_in_file = (refl, refl, refl, refl, refl)
 
 -- ---- A room of ten bytes with a word put at place 1, at the last place that has room for it, and where there is none.
 abbrev pub room : List ℕ
 room = 0x30 ∷ 0x31 ∷ 0x32 ∷ 0x33 ∷ 0x34 ∷ 0x35 ∷ 0x36 ∷ 0x37 ∷ 0x38 ∷ 0x39 ∷ []
 
-word-put :
+word_put :
     (put room 1 (bytes_of 8 low) ≡ 0x30 ∷ 0x08 ∷ 0x07 ∷ 0x06 ∷ 0x05 ∷ 0x04 ∷ 0x03 ∷ 0x02 ∷ 0x01 ∷ 0x39 ∷ [])
     × (put room 2 (bytes_of 8 high) ≡ 0x30 ∷ 0x31 ∷ 0x88 ∷ 0x97 ∷ 0xa6 ∷ 0xb5 ∷ 0xc4 ∷ 0xd3 ∷ 0xe2 ∷ 0xf1 ∷ [])
     × (put room 3 (bytes_of 8 low) ≡ room)
 unfolding put bytes_of
-word-put = (refl, refl, refl)
+word_put = (refl, refl, refl)

@@ -62,57 +62,57 @@ module _ (κs : Lfts 1) (at : Places) where
       (tt, (tt, (tt, (tt, (tt, (tt, (tt, (tt, (answer_after, tt)))))))))
 
 module _ (κs : Lfts 2) (at : Places) where
-  abbrev pub Partials : (mu x y z vx vy vz tau : ℕ) (answer partials : List ℕ) (number : ℕ) (answer_after partialsAfter : List ℕ) → Type 0
-  Partials mu x y z vx vy vz tau answer partials number answer_after partialsAfter =
+  abbrev pub Partials : (mu x y z vx vy vz tau : ℕ) (answer partials : List ℕ) (number : ℕ) (answer_after partials_after : List ℕ) → Type 0
+  Partials mu x y z vx vy vz tau answer partials number answer_after partials_after =
       Allowed 2 partials-kinds.ps partials-kinds.r partials-reads.Post κs
       (mu, (x, (y, (z, (vx, (vy, (vz, (tau, (lent at 0 answer, (lent at 1 partials, tt)))))))))) number
-      (tt, (tt, (tt, (tt, (tt, (tt, (tt, (tt, (answer_after, (partialsAfter, tt))))))))))
+      (tt, (tt, (tt, (tt, (tt, (tt, (tt, (tt, (answer_after, (partials_after, tt))))))))))
 
   abbrev pub Read : (file answer : List ℕ) (number : ℕ) (answer_after : List ℕ) → Type 0
   Read file answer number answer_after =
       Allowed 2 read-kinds.ps read-kinds.r read-reads.Post κs (run at 0 file, (lent at 1 answer, tt)) number (tt, (answer_after, tt))
 
 module _ (κs : Lfts 5) (at : Places) where
-  abbrev pub Write : (centres states requests room answer : List ℕ) (number : ℕ) (roomAfter answer_after : List ℕ) → Type 0
-  Write centres states requests room answer number roomAfter answer_after =
+  abbrev pub Write : (centres states requests room answer : List ℕ) (number : ℕ) (room_after answer_after : List ℕ) → Type 0
+  Write centres states requests room answer number room_after answer_after =
       Allowed 5 write-kinds.ps write-kinds.r write-reads.Post κs
       (run at 0 centres, (run at 1 states, (run at 2 requests, (lent at 3 room, (lent at 4 answer, tt))))) number
-      (tt, (tt, (tt, (roomAfter, (answer_after, tt)))))
+      (tt, (tt, (tt, (room_after, (answer_after, tt)))))
 
 module _ (κs : Lfts 3) (at : Places) where
-  abbrev pub Results : (file room answer : List ℕ) (number : ℕ) (roomAfter answer_after : List ℕ) → Type 0
-  Results file room answer number roomAfter answer_after =
+  abbrev pub Results : (file room answer : List ℕ) (number : ℕ) (room_after answer_after : List ℕ) → Type 0
+  Results file room answer number room_after answer_after =
       Allowed 3 results-kinds.ps results-kinds.r results-reads.Post κs (run at 0 file, (lent at 1 room, (lent at 2 answer, tt))) number
-      (tt, (roomAfter, (answer_after, tt)))
+      (tt, (room_after, (answer_after, tt)))
 
   abbrev pub Check : (file verdicts answer : List ℕ) (number : ℕ) (verdicts_after answer_after : List ℕ) → Type 0
   Check file verdicts answer number verdicts_after answer_after =
       Allowed 3 check-kinds.ps check-kinds.r check-reads.Post κs (run at 0 file, (lent at 1 verdicts, (lent at 2 answer, tt))) number
       (tt, (verdicts_after, (answer_after, tt)))
 
-  abbrev pub Summary : (states : List ℕ) (count centres : ℕ) (list answer : List ℕ) (number : ℕ) (listAfter answer_after : List ℕ) → Type 0
-  Summary states count centres list answer number listAfter answer_after =
+  abbrev pub Summary : (states : List ℕ) (count centres : ℕ) (list answer : List ℕ) (number : ℕ) (list_after answer_after : List ℕ) → Type 0
+  Summary states count centres list answer number list_after answer_after =
       Allowed 3 summary-kinds.ps summary-kinds.r summary-reads.Post κs
       (run at 0 states, (count, (centres, (lent at 1 list, (lent at 2 answer, tt))))) number
-      (tt, (tt, (tt, (listAfter, (answer_after, tt)))))
+      (tt, (tt, (tt, (list_after, (answer_after, tt)))))
 
   abbrev pub Withdraw :
-      (which : ℕ) (states : List ℕ) (count centres : ℕ) (list answer : List ℕ) (number : ℕ) (statesAfter listAfter answer_after : List ℕ) → Type 0
-  Withdraw which states count centres list answer number statesAfter listAfter answer_after =
+      (which : ℕ) (states : List ℕ) (count centres : ℕ) (list answer : List ℕ) (number : ℕ) (states_after list_after answer_after : List ℕ) → Type 0
+  Withdraw which states count centres list answer number states_after list_after answer_after =
       Allowed 3 withdraw-kinds.ps withdraw-kinds.r withdraw-reads.Post κs
       (which, (lent at 0 states, (count, (centres, (lent at 1 list, (lent at 2 answer, tt)))))) number
-      (tt, (statesAfter, (tt, (tt, (listAfter, (answer_after, tt))))))
+      (tt, (states_after, (tt, (tt, (list_after, (answer_after, tt))))))
 
 module _ (κs : Lfts 4) (at : Places) where
   abbrev pub Append :
-      (state states : List ℕ) (count centres : ℕ) (list answer : List ℕ) (number : ℕ) (statesAfter listAfter answer_after : List ℕ) → Type 0
-  Append state states count centres list answer number statesAfter listAfter answer_after =
+      (state states : List ℕ) (count centres : ℕ) (list answer : List ℕ) (number : ℕ) (states_after list_after answer_after : List ℕ) → Type 0
+  Append state states count centres list answer number states_after list_after answer_after =
       Allowed 4 append-kinds.ps append-kinds.r append-reads.Post κs
       (run at 0 state, (lent at 1 states, (count, (centres, (lent at 2 list, (lent at 3 answer, tt)))))) number
-      (tt, (statesAfter, (tt, (tt, (listAfter, (answer_after, tt))))))
+      (tt, (states_after, (tt, (tt, (list_after, (answer_after, tt))))))
 
-  abbrev pub Compare : (left right rows answer : List ℕ) (number : ℕ) (rowsAfter answer_after : List ℕ) → Type 0
-  Compare left right rows answer number rowsAfter answer_after =
+  abbrev pub Compare : (left right rows answer : List ℕ) (number : ℕ) (rows_after answer_after : List ℕ) → Type 0
+  Compare left right rows answer number rows_after answer_after =
       Allowed 4 compare-kinds.ps compare-kinds.r compare-reads.Post κs
       (run at 0 left, (run at 1 right, (lent at 2 rows, (lent at 3 answer, tt)))) number
-      (tt, (tt, (rowsAfter, (answer_after, tt))))
+      (tt, (tt, (rows_after, (answer_after, tt))))

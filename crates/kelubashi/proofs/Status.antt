@@ -74,40 +74,40 @@ module _ (at : Places) (answer : List ℕ) (number : ℕ) (after : List ℕ) whe
   unfolding answer_words
   propagate_status κs mu x y z vx vy vz tau p = status 15 answer _ p.0 p.1
 
-  pub partials_status : (κs : Lfts 2) (mu x y z vx vy vz tau : ℕ) (partials partialsAfter : List ℕ) →
-      Partials κs at mu x y z vx vy vz tau answer partials number after partialsAfter → Status 15 answer number after
+  pub partials_status : (κs : Lfts 2) (mu x y z vx vy vz tau : ℕ) (partials partials_after : List ℕ) →
+      Partials κs at mu x y z vx vy vz tau answer partials number after partials_after → Status 15 answer number after
   unfolding answer_words
-  partials_status κs mu x y z vx vy vz tau partials partialsAfter p = status 15 answer _ p.0 p.1.0
+  partials_status κs mu x y z vx vy vz tau partials partials_after p = status 15 answer _ p.0 p.1.0
 
   pub read_status : (κs : Lfts 2) (file : List ℕ) → Read κs at file answer number after → Status 8 answer number after
   read_status κs file p = status 8 answer _ p.0 p.1
 
-  pub write_status : (κs : Lfts 5) (centres states requests room roomAfter : List ℕ) →
-      Write κs at centres states requests room answer number roomAfter after → Status 2 answer number after
-  write_status κs centres states requests room roomAfter p = status 2 answer _ p.0 p.1.0
+  pub write_status : (κs : Lfts 5) (centres states requests room room_after : List ℕ) →
+      Write κs at centres states requests room answer number room_after after → Status 2 answer number after
+  write_status κs centres states requests room room_after p = status 2 answer _ p.0 p.1.0
 
-  pub results_status : (κs : Lfts 3) (file room roomAfter : List ℕ) → Results κs at file room answer number roomAfter after → Status 2 answer number after
-  results_status κs file room roomAfter p = status 2 answer _ p.0 p.1.0
+  pub results_status : (κs : Lfts 3) (file room room_after : List ℕ) → Results κs at file room answer number room_after after → Status 2 answer number after
+  results_status κs file room room_after p = status 2 answer _ p.0 p.1.0
 
-  pub summary_status : (κs : Lfts 3) (states : List ℕ) (count centres : ℕ) (list listAfter : List ℕ) →
-      Summary κs at states count centres list answer number listAfter after → Status 2 answer number after
-  summary_status κs states count centres list listAfter p = status 2 answer _ p.0 p.1.0
+  pub summary_status : (κs : Lfts 3) (states : List ℕ) (count centres : ℕ) (list list_after : List ℕ) →
+      Summary κs at states count centres list answer number list_after after → Status 2 answer number after
+  summary_status κs states count centres list list_after p = status 2 answer _ p.0 p.1.0
 
-  pub append_status : (κs : Lfts 4) (state states : List ℕ) (count centres : ℕ) (list statesAfter listAfter : List ℕ) →
-      Append κs at state states count centres list answer number statesAfter listAfter after → Status 2 answer number after
-  append_status κs state states count centres list statesAfter listAfter p = status 2 answer _ p.0 p.1.0
+  pub append_status : (κs : Lfts 4) (state states : List ℕ) (count centres : ℕ) (list states_after list_after : List ℕ) →
+      Append κs at state states count centres list answer number states_after list_after after → Status 2 answer number after
+  append_status κs state states count centres list states_after list_after p = status 2 answer _ p.0 p.1.0
 
-  pub withdraw_status : (κs : Lfts 3) (which : ℕ) (states : List ℕ) (count centres : ℕ) (list statesAfter listAfter : List ℕ) →
-      Withdraw κs at which states count centres list answer number statesAfter listAfter after → Status 2 answer number after
-  withdraw_status κs which states count centres list statesAfter listAfter p = status 2 answer _ p.0 p.1.0
+  pub withdraw_status : (κs : Lfts 3) (which : ℕ) (states : List ℕ) (count centres : ℕ) (list states_after list_after : List ℕ) →
+      Withdraw κs at which states count centres list answer number states_after list_after after → Status 2 answer number after
+  withdraw_status κs which states count centres list states_after list_after p = status 2 answer _ p.0 p.1.0
 
   pub check_status : (κs : Lfts 3) (file verdicts verdicts_after : List ℕ) →
       Check κs at file verdicts answer number verdicts_after after → Status 2 answer number after
   check_status κs file verdicts verdicts_after p = status 2 answer _ p.0 p.1.0
 
-  pub compare_status : (κs : Lfts 4) (left right rows rowsAfter : List ℕ) →
-      Compare κs at left right rows answer number rowsAfter after → Status 7 answer number after
-  compare_status κs left right rows rowsAfter p = status 7 answer _ p.0 p.1.0
+  pub compare_status : (κs : Lfts 4) (left right rows rows_after : List ℕ) →
+      Compare κs at left right rows answer number rows_after after → Status 7 answer number after
+  compare_status κs left right rows rows_after p = status 7 answer _ p.0 p.1.0
 
   -- T-05: 31 to 38 by the parameters of the C call, in their order.
   pub propagate_names : (κs : Lfts 1) (mu x y z vx vy vz tau : ℕ) →
@@ -115,8 +115,8 @@ module _ (at : Places) (answer : List ℕ) (number : ℕ) (after : List ℕ) whe
   propagate_names κs mu x y z vx vy vz tau p h =
       subst (ByName mu x y z vx vy vz tau) (sym (passed 15 answer _ p.0 h)) (calls_name _ _ mu x y z vx vy vz tau).0
 
-  pub partials_names : (κs : Lfts 2) (mu x y z vx vy vz tau : ℕ) (partials partialsAfter : List ℕ) →
-      Partials κs at mu x y z vx vy vz tau answer partials number after partialsAfter →
+  pub partials_names : (κs : Lfts 2) (mu x y z vx vy vz tau : ℕ) (partials partials_after : List ℕ) →
+      Partials κs at mu x y z vx vy vz tau answer partials number after partials_after →
       length answer ≡ 15 → length partials ≡ 36 → ByName mu x y z vx vy vz tau number
-  partials_names κs mu x y z vx vy vz tau partials partialsAfter p h l =
+  partials_names κs mu x y z vx vy vz tau partials partials_after p h l =
       subst (ByName mu x y z vx vy vz tau) (sym (passed 15 answer _ p.0 h)) ((calls_name _ _ mu x y z vx vy vz tau).1 partials l)

@@ -23,8 +23,8 @@ module _ (states : List ℕ) (wide its epoch count centre : ℕ) where
       let z : next.nans ≡ (with_state tally centre number word).nans = ap (λ (t : Tally). t.nans) e in
       record {
         few = omega (arith, inv.few);
-        few_numbers = omega (arith, inv.few, inv.few-numbers, grow.0, s, p);
-        few_nans = omega (arith, inv.few, inv.few-nans, grow.1, z, p);
+        few_numbers = omega (arith, inv.few, inv.few_numbers, grow.0, s, p);
+        few_nans = omega (arith, inv.few, inv.few_nans, grow.1, z, p);
         same = rw (e, ← n) (sym (gather_step wide its epoch centre states count tally k (omega (arith, p, inv.few)) c d) ∙ inv.same);
       }
 
@@ -69,7 +69,7 @@ bounds-states-at-in-loop-left c = omega (arith, there c.args.wide c.loop-left.in
 
 pub with_state-tally-requires : goal.with_state-tally-requires
 with_state-tally-requires c =
-    (omega (arith, c.loop-left.invariant.few-numbers, c.requires.2), omega (arith, c.loop-left.invariant.few-nans, c.requires.2))
+    (omega (arith, c.loop-left.invariant.few_numbers, c.requires.2), omega (arith, c.loop-left.invariant.few_nans, c.requires.2))
 
 pub loop-left-preserved : goal.loop-left-preserved
 loop-left-preserved c =
