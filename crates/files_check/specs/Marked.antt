@@ -65,7 +65,7 @@ at_once =
     ∷ two ∷ three ∷ 0x4018000000000000 ∷ one ∷ 0x4014000000000000 ∷ 0x4010000000000000
     ∷ 0xc000000000000000 ∷ 0xc008000000000000 ∷ 0xc018000000000000 ∷ []
 
--- Below, a small number n for τ or ψ is the word of n times 2^−1074, and minusZero + n that of its negative: R is 3·ψ − τ, or 2·ψ − τ, in that unit.
+-- Below, a small number n for τ or ψ is the word of n times 2^−1074, and minus_zero + n that of its negative: R is 3·ψ − τ, or 2·ψ − τ, in that unit.
 abbrev pub table : List Case
 table =
     -- P10 and P11: exact.
@@ -123,12 +123,12 @@ after (c ∷ cs) = c.verdict ∷ after cs
 -- Each row of the table, in one file, has its verdict.
 pub marked : verdicts_after (as_bytes (length table ∷ rows_of table)) (before table) ≡ after table
 unfolding
-    verdicts_after rows_check filled_check counted_check count_check walk words words_from word_at number_of bytes_of as_bytes each_of verdict_of
-    accepts accepts_at reached_words_by reached_orbit_by reached_from_by reached_over_by reached_found interval_of without_revolutions without_n as_it_is floor_of
-    course_of is_closed is_usable revolution_of of_int read_of begun_of dot first_step_of ended_of figures_of results_of acceleration_of arc_of end_state_of factors_of
-    has first_of same_words is_right is_right_beyond_zero has_sign_of passes short_passes past_passes picks nearer_end trial_at evaluated_at sort_of anomaly_at
-    time_error_of radius_of coefficients_of sums_of quotients_of doublings at_reduced c4_of c5_of nested reduced_from beyond_one root_of root_word_of add sub mul
-    div neg lt eq ne of_bits to_bits
+    verdicts_after rows_check filled_check counted_check count_check walk words words_from word_at number_of bytes_of as_bytes each_of verdict_of accepts
+    accepts_at reached_words_by reached_orbit_by reached_from_by reached_over_by reached_found interval_of without_revolutions without_n as_it_is floor_of
+    course_of is_closed is_usable revolution_of of_int read_of begun_of dot first_step_of ended_of figures_of results_of acceleration_of arc_of end_state_of
+    factors_of has first_of same_words is_right is_right_beyond_zero has_sign_of passes short_passes past_passes picks nearer_end trial_at evaluated_at
+    sort_of anomaly_at time_error_of radius_of coefficients_of sums_of quotients_of doublings at_reduced c4_of c5_of nested reduced_from beyond_one root_of
+    root_word_of add sub mul div neg lt eq ne of_bits to_bits
 marked = refl
 
 -- ---- Files.

@@ -5,7 +5,16 @@ use Rattle.files_words.specs.Bytes.{word_at}
 use Rattle.files_checks.specs.declared.Check.{Check}
 use Rattle.files_checks.specs.declared.Check.TheVariants.{Sound, Fault}
 use Rattle.files_checks.specs.Checks.{filled_check}
-use Rattle.files_formats.specs.Rows.{checked_count_place, checked_width, most_checked, checked_place, given_words, checked_anomaly, checked_figure, checked_figures}
+use Rattle.files_formats.specs.Rows.{
+  checked_count_place,
+  checked_width,
+  most_checked,
+  checked_place,
+  given_words,
+  checked_anomaly,
+  checked_figure,
+  checked_figures,
+}
 use Rattle.states_check.specs.Row.{accepts}
 use Rattle.files_check.specs.declared.Judged.{Judged}
 

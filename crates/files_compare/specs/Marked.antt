@@ -127,8 +127,8 @@ pub marked :
     run_after (file (length table) (left_rows table)) (file (length table) (right_rows table)) (replicate (19 * length table) 9 ++ (7 ∷ []))
     ≡ all_told table ++ (7 ∷ [])
 unfolding
-    run_after comparison_of results_check edition_check filled_check counted_check count_check walk words words_from word_at number_of bytes_of as_bytes rows_told
-    row_at figures_told largest_of largest_in_row row_kind_of figure_of of_bits
+    run_after comparison_of results_check edition_check filled_check counted_check count_check walk words words_from word_at number_of bytes_of as_bytes
+    rows_told row_at figures_told largest_of largest_in_row row_kind_of figure_of of_bits
 marked = refl
 
 -- ---- Files: their bytes, the words lent for the rows, and the seven words that are answered.

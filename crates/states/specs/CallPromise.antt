@@ -191,4 +191,5 @@ abbrev pub Else01Stands : Type 0
 Else01Stands =
     (pr : Proposing) (words : List ℕ) → NoneComesOff words →
     (propagate_by interval_of pr words ≡ propagate_by wholly pr words)
-    × ((run : List ℕ) → (partials_by interval_of pr words run ≡ partials_by wholly pr words run) × (lent_by interval_of pr words run ≡ lent_by wholly pr words run))
+    × ((run : List ℕ) →
+    (partials_by interval_of pr words run ≡ partials_by wholly pr words run) × (lent_by interval_of pr words run ≡ lent_by wholly pr words run))

@@ -45,7 +45,12 @@ arc =
       };
       s = record { s1 = of_word 0x3ff077cc4b76f8e1; s2 = of_word 0x3fe3edda63bbe08d; s3 = of_word 0x3fcf1aa574f1a678 };
       r = of_word 0x3ff8df55ff2a8950;
-      factors = record { f = of_word 0x3fdd35799e220d0a; g = of_word 0x3ff41cab5161cb31; fprime = of_word 0xbfe27e5f11c0c308; gprime = of_word 0x3fe32e1055907d3c };
+      factors = record {
+        f = of_word 0x3fdd35799e220d0a;
+        g = of_word 0x3ff41cab5161cb31;
+        fprime = of_word 0xbfe27e5f11c0c308;
+        gprime = of_word 0x3fe32e1055907d3c;
+      };
       end = record {
         position = vector 0x3fe3a1e7a3697951 0x3ff5f002eb43ec02 0x3fd99e99d3b28fdd;
         velocity = vector 0xbfe0189d070eb360 0x3fdd1cf1224098f4 0x3fe2d637b3a8a022;
@@ -53,7 +58,8 @@ arc =
     }
 
 its_parts : arc_of arc.start arc.interval arc.psi ≡ arc
-unfolding add sub mul div neg lt of_bits beyond_one reduced_from nested c4_of c5_of at_reduced coefficients_of sums_of radius_of factors_of end_state_of arc_of as_it_is arc
+unfolding add sub mul div neg lt of_bits beyond_one reduced_from nested c4_of c5_of at_reduced coefficients_of sums_of radius_of factors_of end_state_of
+    arc_of as_it_is arc
 its_parts = refl
 
 its-results :

@@ -23,9 +23,9 @@ use Rattle.bits.specs.Words.{words_of}
 -- What the partials of an arc are computed by.
 computed : Arc → List ℕ
 unfolding
-    add sub mul div neg lt eq of_int of_bits to_bits first_of has floor_of as_it_is without_n without_revolutions interval_of beyond_one reduced_from nested c4_of c5_of
-    at_reduced doublings quotients_of coefficients_of sums_of radius_of factors_of end_state_of arc_of u_at_found whole_anomaly_of whole_sums_of u_at_whole u_of u_refused
-    matrix_of plus_of minus_of partial_of unit_of component_of entry_of up_to entries_of
+    add sub mul div neg lt eq of_int of_bits to_bits first_of has floor_of as_it_is without_n without_revolutions interval_of beyond_one reduced_from nested
+    c4_of c5_of at_reduced doublings quotients_of coefficients_of sums_of radius_of factors_of end_state_of arc_of u_at_found whole_anomaly_of whole_sums_of
+    u_at_whole u_of u_refused matrix_of plus_of minus_of partial_of unit_of component_of entry_of up_to entries_of
 computed a = words_of (entries_of a)
 
 its-partials :

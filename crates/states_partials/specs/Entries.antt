@@ -30,7 +30,7 @@ component_of v i = pick (eqb i 0) v.x (pick (eqb i 1) v.y v.z)
 
 -- "p by u is g·I plus the same with A22 A23 A32 A33 in those places; w by q is f'·I minus it with A11 A12 A21 A22; w by u is g'·I minus it with A12 A13 A22
 -- A23." The first two arguments say whether it is the partial of p or of w, and whether by q or by u.
-unfoldable pub partial_of : (ofPosition byPosition : Bool) → Factors → Matrix → (unit p w q u : Float) → Float
+unfoldable pub partial_of : (of_position by_position : Bool) → Factors → Matrix → (unit p w q u : Float) → Float
 partial_of true true k a unit p w q u = plus_of k.f unit a.a21 a.a22 a.a31 a.a32 p w q u
 partial_of true false k a unit p w q u = plus_of k.g unit a.a22 a.a23 a.a32 a.a33 p w q u
 partial_of false true k a unit p w q u = minus_of k.fprime unit a.a11 a.a12 a.a21 a.a22 p w q u
