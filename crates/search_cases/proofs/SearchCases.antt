@@ -164,8 +164,8 @@ backward = refl
 abbrev AtRest : (r0 tau psi : ℕ) → Type 0
 AtRest r0 tau psi = search_of (initial 0 r0 0 0) (seconds tau) (anomaly 0) ≡ found psi 3
 
-place-zero :
+place_zero :
     AtRest 0x3ff8000000000000 0x8000000000000001 0x8000000000000000
     × AtRest 0x4008000000000000 0x0000000000000002 0x0000000000000001
 unfolding of_bits to_bits neg add sub mul div lt eq ne beyond_one reduced_from nested c4_of c5_of at_reduced doublings quotients_of coefficients_of sums_of time_error_of radius_of anomaly_at sort_of evaluated_at trial_at onward outward halving rule.round inward history counted offered_at by_radius by_interval by_ends proposed nearer_end search_choosing
-place-zero = (refl, refl)
+place_zero = (refl, refl)

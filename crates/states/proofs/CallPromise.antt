@@ -182,7 +182,7 @@ ends_with_partials : (arc : Arc) (n : ℕ) (run : List ℕ) → EndsWithPartials
 ends_with_partials arc n run =
     record {
       refuses = refuses_with arc n (ended_of arc) run;
-      refuses-partials = partials_refuse arc n (ended_of arc) run;
+      refuses_partials = partials_refuse arc n (ended_of arc) run;
       answers = answers_with arc n (ended_of arc) run;
     }
 

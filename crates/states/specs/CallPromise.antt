@@ -121,7 +121,7 @@ pub record EndsWith (arc : Arc) (points : ℕ) (a : Answer) : Type 0 where
 -- With them: 8 also by "the partials' own divisors and figures". "lent memory keeps its bytes", or holds the partials of this arc.
 pub record EndsWithPartials (run after : List ℕ) (arc : Arc) (points : ℕ) (a : Answer) : Type 0 where
   pub refuses : (k : ℕ) → ended_of arc ≡ ended.Refused k → (a ≡ refused k points) × (after ≡ run)
-  pub refuses-partials :
+  pub refuses_partials :
       (r : Results) (k : ℕ) → ended_of arc ≡ ended.Results r → partials_refusal arc run ≡ k → 0 < k → (a ≡ refused k points) × (after ≡ run)
   pub answers :
       (r : Results) → ended_of arc ≡ ended.Results r → partials_refusal arc run ≡ 0 → (a ≡ answered points r) × (after ≡ words_of (entries_of arc))

@@ -62,7 +62,7 @@ unfolding add sub mul div neg lt of_bits beyond_one reduced_from nested c4_of c5
     arc_of as_it_is arc
 its_parts = refl
 
-its-results :
+its_results :
     ended_of arc
     ≡ ended.Results
     (record {
@@ -72,7 +72,7 @@ its-results :
       psi = arc.psi;
     })
 unfolding mul div neg lt eq of_bits to_bits acceleration_of results_of figures_of ended_of first_of has arc
-its-results = refl
+its_results = refl
 
 -- Refusal 7, "r at the found ψ isn't greater than zero", whatever else an arc has: either zero, minus the least double, minus infinity, a NaN.
 abbrev with_radius : Arc → ℕ → Arc

@@ -239,5 +239,5 @@ not_before_search pr given anomaly nine x =
     let s = x.searches in
     record {
       after_search = rw (reaches interval_of pr given s refl) (found_after s.start (interval_in s) (found_by pr s.start.initial (searched_in s)));
-      at-anomaly = λ n f. rw (reaches interval_of pr given s f, x.ends) (ended_answers n x.results nine x.figures);
+      at_anomaly = λ n f. rw (reaches interval_of pr given s f, x.ends) (ended_answers n x.results nine x.figures);
     }

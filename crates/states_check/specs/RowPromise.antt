@@ -64,7 +64,7 @@ pub record BesideCall (pr : Proposing) (given : List ℕ) (anomaly : ℕ) (nine 
   -- Nothing before the search refuses it: it answers, or its refusal is one of 5 to 8.
   pub after_search : let a = propagate_by interval_of pr given in (a.refusal ≡ 0) ⊎ ((5 ≤ a.refusal) × (a.refusal ≤ 8))
   -- Where its search finds the row's anomaly, it is not refused by 7 or 8 either: it answers, and with the row's figures.
-  pub at-anomaly :
+  pub at_anomaly :
       let i = s.start.initial in
       let tau = searched_in s in
       let a = propagate_by interval_of pr given in

@@ -28,7 +28,7 @@ unfolding
     u_at_whole u_of u_refused matrix_of plus_of minus_of partial_of unit_of component_of entry_of up_to entries_of
 computed a = words_of (entries_of a)
 
-its-partials :
+its_partials :
     words_of (entries_of arc)
     ≡ 0x3ffa592ffc9c915c ∷ 0x3fe5a5c5929b021a ∷ 0xbfd80326e6fb9dd3 ∷ 0x3ffadc3de5b00f0b ∷ 0x3fd5f48608b8ca6c ∷ 0xbfb2aae351fed5bf
     ∷ 0x3fe9d93506ea4606 ∷ 0x3fef9731d7308977 ∷ 0xbfcb41056a55740e ∷ 0x3fd7cbfa5a0e0098 ∷ 0x3ff99c00ebea06a0 ∷ 0xbfa4ad492e22ec8c
@@ -38,7 +38,7 @@ its-partials :
     ∷ 0xbfbdf0b460e49378 ∷ 0xbf9654f140e4a5e0 ∷ 0xbfe07bfc20471f4f ∷ 0x3f8fa5b7c8501630 ∷ 0x3fb06e3188503b04 ∷ 0x3fe40dae76baaa96
     ∷ []
 unfolding computed arc
-its-partials = refl
+its_partials = refl
 
 -- T-04: a circle, μ = 1, position (1,0,0), velocity (0,1,0), after three whole revolutions. Nothing is left to search, and ψ is +0. A start that
 -- is a little off has another period, and the body gets further ahead or behind with each second: the four entries that differ from a unit
@@ -56,7 +56,7 @@ its_course = Closed (record { period = record { 0 = of_word 0x401921fb54442d18 }
 three_times : Interval
 three_times = interval_of its_course (record { 0 = of_word 0x4032d97c7f3321d2 })
 
-it-comes-round :
+it_comes_round :
     (u_refused (arc_of a_circle three_times (record { 0 = n0 })) ≡ false)
     × (words_of (entries_of (arc_of a_circle three_times (record { 0 = n0 })))
     ≡ 0x3ff0000000000000 ∷ 0 ∷ 0 ∷ 0 ∷ 0 ∷ 0
@@ -67,7 +67,7 @@ it-comes-round :
     ∷ 0x8000000000000000 ∷ 0x8000000000000000 ∷ 0x8000000000000000 ∷ 0 ∷ 0 ∷ 0x3ff0000000000000
     ∷ [])
 unfolding computed a_circle its_course three_times
-it-comes-round = (refl, refl)
+it_comes_round = (refl, refl)
 
 -- The lower crate's orbit for 40 s: two revolutions of 18.89 s come off, and at the ψ of what is left no sum is zero.
 two_laps : Interval
@@ -75,7 +75,7 @@ two_laps =
     interval_of (Closed (record { period = record { 0 = of_word 0x4032e30370eec1e0 }; anomaly = record { 0 = of_word 0x402222c151418bc2 } }))
     (record { 0 = of_word 0x4044000000000000 })
 
-it-goes-on :
+it_goes_on :
     (u_refused (arc_of arc.start two_laps (record { 0 = of_word 0x3ff94047a1472343 })) ≡ false)
     × (words_of (entries_of (arc_of arc.start two_laps (record { 0 = of_word 0x3ff94047a1472343 })))
     ≡ 0x4056e242d857ec2b ∷ 0x4037a342364c815f ∷ 0xc046a8d1e7309498 ∷ 0x403349c8c29efb73 ∷ 0x4060ebb025c6463d ∷ 0x4050cc621be2c8a5
@@ -86,4 +86,4 @@ it-goes-on :
     ∷ 0x40352842ac1fb0d2 ∷ 0x4015befcbf59db59 ∷ 0xc026389353ee2662 ∷ 0x4010906bc58e878e ∷ 0x403ff36364a8ba0d ∷ 0x40304256f771f1ef
     ∷ [])
 unfolding computed arc two_laps
-it-goes-on = (refl, refl)
+it_goes_on = (refl, refl)

@@ -9,14 +9,14 @@ use bits::words::word_of;
 use states_arcs::{Arc, Factors};
 use states_start::Vector;
 
-// A partial of the position: typeof.k.I and the four products.
+// A partial of the position: k·I and the four products.
 fn plus(k: f64, unit: f64, a: f64, b: f64, c: f64, d: f64, p: f64, w: f64, q: f64, u: f64) -> f64
     ensures { result ≡ plus_of k unit a b c d p w q u }
 {
     k * unit + ((a * p * q + b * p * u) + (c * w * q + d * w * u))
 }
 
-// A partial of the velocity: typeof.k.I less the four products.
+// A partial of the velocity: k·I less the four products.
 fn minus(k: f64, unit: f64, a: f64, b: f64, c: f64, d: f64, p: f64, w: f64, q: f64, u: f64) -> f64
     ensures { result ≡ minus_of k unit a b c d p w q u }
 {

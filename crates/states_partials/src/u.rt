@@ -23,7 +23,7 @@ pub struct WholeSums {
     pub s5: f64,
 }
 
-// The whole anomaly of an arc: the found one and typeof.n.Q.
+// The whole anomaly of an arc: the found one and n·Q.
 fn whole_anomaly(arc: Arc, off: Anomaly) -> WholeAnomaly
     ensures { result ≡ whole_anomaly_of arc off }
 {

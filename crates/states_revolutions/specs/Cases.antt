@@ -30,29 +30,29 @@ ends_within :
 unfolding floor_of of_int of_bits
 ends_within = refl
 
-ends-beyond :
+ends_beyond :
     map floor_of (of_word 0x4270000000001000 ∷ of_word 0xc270000000000001 ∷ nan ∷ inf true ∷ inf false ∷ [])
     ≡ Beyond ∷ Beyond ∷ Beyond ∷ Beyond ∷ Beyond ∷ []
 unfolding floor_of of_int of_bits
-ends-beyond = refl
+ends_beyond = refl
 
 -- ---- By μ and α. μ = 1 and α = −1: P and Q are 2·π. μ = 0, μ = −1, α = 0 and α = 1 do not close; α = −2^−800, whose P is infinite, and
 -- α = −2^800, whose P is zero, cannot be used.
 of : (mu alpha : ℕ) → Course
 of mu alpha = course_of (record { mu = of_word mu; r0 = of_word 0x3ff0000000000000; sigma0 = of_word 0; alpha = of_word alpha })
 
-is-closed :
+is_closed_lem :
     of 0x3ff0000000000000 0xbff0000000000000
     ≡ Closed (record { period = record { 0 = of_word 0x401921fb54442d18 }; anomaly = record { 0 = of_word 0x401921fb54442d18 } })
 unfolding of revolution_of is_closed is_usable course_of root_of root_word_of mul div neg lt of_bits to_bits
-is-closed = refl
+is_closed_lem = refl
 
-not-closed :
+not_closed :
     of 0 0xbff0000000000000 ∷ of 0xbff0000000000000 0xbff0000000000000 ∷ of 0x3ff0000000000000 0
     ∷ of 0x3ff0000000000000 0x3ff0000000000000 ∷ of 0x3ff0000000000000 0x8df0000000000000 ∷ of 0x3ff0000000000000 0xf1f0000000000000 ∷ []
     ≡ Open ∷ Open ∷ Open ∷ Open ∷ Open ∷ Open ∷ []
 unfolding of revolution_of is_closed is_usable course_of root_of root_word_of mul div neg lt of_bits to_bits
-not-closed = refl
+not_closed = refl
 
 -- ---- P = 4 and Q = 2.
 on : (whole : ℕ) → Interval

@@ -26,7 +26,7 @@ pub enum Floor {
     Beyond,
 }
 
-// What came off an interval: whole revolutions, n of them, whose anomaly is typeof.n.Q; or nothing.
+// What came off an interval: whole revolutions, n of them, whose anomaly is n·Q; or nothing.
 #[derive(Clone, Copy)]
 pub enum Off {
     Revolutions(Anomaly),

@@ -36,24 +36,24 @@ unfolding first_of has read_of eq of_bits
 alone = (refl, refl, refl, refl, refl, refl, refl, refl)
 
 -- The first of several: of vy and τ, of μ and x, of all eight.
-of-several :
+of_several :
     (read_of (0 ∷ 0 ∷ 0 ∷ 0 ∷ 0 ∷ infinite ∷ 0 ∷ nan ∷ []) ≡ read.Refused 36)
     × (read_of (nan ∷ infinite ∷ 0 ∷ 0 ∷ 0 ∷ 0 ∷ 0 ∷ 0 ∷ []) ≡ read.Refused 31)
     × (read_of (nan ∷ nan ∷ nan ∷ nan ∷ nan ∷ nan ∷ nan ∷ nan ∷ []) ≡ read.Refused 31)
 unfolding first_of has read_of eq of_bits
-of-several = (refl, refl, refl)
+of_several = (refl, refl, refl)
 
 -- ---- Refusal 4 by one figure alone.
 -- By σ0, which its rounding alone can bring. Let u be 2^971, the last place of the greatest double G. x and vx are 2^512−2^459: x², x·vx and vx² round to G−u.
 -- Then y² = u/2, y·vy = 3u/4 and vy² = 9u/8; z² = 9u/8, z·vz = 21u/32 and vz² = 49u/128. So the sum goes from G−u over G−u, a tie, to G; v² from G−u over G
 -- to G; and σ0 from G−u over G to more than half of u beyond it.
-sigma0-alone :
+sigma0_alone :
     begun_of
     (orbit
     (0 ∷ 0x5fefffffffffffff ∷ 0x5e40000000000000 ∷ 0x5e48000000000000 ∷ 0x5fefffffffffffff ∷ 0x5e48000000000000 ∷ 0x5e3c000000000000 ∷ 0 ∷ []))
     ≡ begun.Refused 4
 unfolding first_of has dot begun_of root_word_of root_of add sub mul div eq of_bits to_bits
-sigma0-alone = refl
+sigma0_alone = refl
 
 -- By α: r0 = 1, v² = 9·2^1020, and (2·μ)/r0 is minus that.
 alpha_alone : begun_of (orbit (0xffd2000000000000 ∷ 0x3ff0000000000000 ∷ 0 ∷ 0 ∷ 0 ∷ 0x5fe8000000000000 ∷ 0 ∷ 0 ∷ [])) ≡ begun.Refused 4

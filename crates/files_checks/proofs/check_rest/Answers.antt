@@ -17,12 +17,12 @@ module _ (file : List ℕ) (place count : ℕ) {there : ℕ} (e : there ≡ word
       ap (λ (n : ℕ). Fault 21 (place + 8 * n)) short.0
       ∙ sym (ap (λ (k : Check). k ⟫ end_check file (place + 8 * count)) (walk_any_short place count (words_from file place) short.1))
 
-  pub none-missing : count ≤ there → {r : Check} → r ≡ end_check file (place + 8 * count) → r ≡ rest_check file place count
-  none-missing h f =
+  pub none_missing : count ≤ there → {r : Check} → r ≡ end_check file (place + 8 * count) → r ≡ rest_check file place count
+  none_missing h f =
       f ∙ sym (ap (λ (k : Check). k ⟫ end_check file (place + 8 * count)) (walk_any place count (words_from file place) (all_there _ count there e h).1))
 
 pub returns-then-there-words : goal.returns-then-there-words
 returns-then-there-words c = missing _ _ _ c.words_there-there.ensures c.if-there-words.true
 
 pub returns : goal.returns
-returns c = none-missing _ _ _ c.words_there-there.ensures c.if-there-words.false c.need.ensures
+returns c = none_missing _ _ _ c.words_there-there.ensures c.if-there-words.false c.need.ensures

@@ -22,8 +22,8 @@ module _ (left right run : List ℕ) (sound : (results_check left ≡ Sound) × 
   Right c after = (c ≡ comparison_of left right (length run)) × (after ≡ run_after left right run)
 
   module _ {v w : ℕ} (ev : v ≡ row_count left) (ew : w ≡ row_count right) where
-    counts-differ : (v ≡ w → ⊥) → Right (comparison.Refused 51 side.Neither 0) run
-    counts-differ h =
+    counts_differ : (v ≡ w → ⊥) → Right (comparison.Refused 51 side.Neither 0) run
+    counts_differ h =
         let e = (refuses_in_order left right (length run)).then_51 sound.0 sound.1 (λ q. h (ev ∙ q ∙ sym ew)) in
         (sym e, sym ((keeps_or_tells left right run).kept _ _ _ e))
 
@@ -52,7 +52,7 @@ there file sound ev = omega (arith, ev, (sound_so file sound).size)
 pub returns-then-count-word_at : goal.returns-then-count-word_at
 returns-then-count-word_at c =
     let r =
-    counts-differ _ _ _ c.requires c.word_at-count.ensures c.word_at.ensures c.if-count-word_at.true
+    counts_differ _ _ _ c.requires c.word_at-count.ensures c.word_at.ensures c.if-count-word_at.true
     in record { comparison = r.0; run = r.1 }
 
 pub overflow_mul-words : goal.overflow_mul-words

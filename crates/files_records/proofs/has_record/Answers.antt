@@ -11,8 +11,8 @@ use Rattle.files_records.proofs.has_record.Goals as goal
 no_words : (words w i : ℕ) → w ≡ 0 → true ≡ leb (suc i * w) words
 no_words words w i z = let none : suc i * w ≡ suc i * 0 = ap (λ (k : ℕ). suc i * k) z in sym (le-leb (suc i * w) words (omega (arith, none)))
 
-by-quotient : (words w i : ℕ) → 0 < w → ltb i (words / w) ≡ leb (suc i * w) words
-by-quotient words w i h = go (ltb i (words / w)) refl
+by_quotient : (words w i : ℕ) → 0 < w → ltb i (words / w) ≡ leb (suc i * w) words
+by_quotient words w i h = go (ltb i (words / w)) refl
   where
     go : (b : Bool) → ltb i (words / w) ≡ b → b ≡ leb (suc i * w) words
     go true e = sym (le-leb (suc i * w) words ((le-div_iff_mul-le h).0 (ltb-true i (words / w) e)))
@@ -22,4 +22,4 @@ pub returns-then-w-eq0 : goal.returns-then-w-eq0
 returns-then-w-eq0 c = let a = c.args in no_words a.words a.w a.i c.if-w-eq0.true
 
 pub returns : goal.returns
-returns c = let a = c.args in by-quotient a.words a.w a.i (omega (arith, c.if-w-eq0.false))
+returns c = let a = c.args in by_quotient a.words a.w a.i (omega (arith, c.if-w-eq0.false))

@@ -47,8 +47,8 @@ module _ (run : List ℕ) (w count which : ℕ) where
         let n : 0 ≡ all_of - ((count - 1) * w - which * w) = omega arith in
         record { few = omega arith; long = refl; same = paste-zero run (which * w) (drop (which * w + w) run) ∙ ap (shifted run (which * w) w) n }
 
-    in-the-end : (now : List ℕ) (left : ℕ) → left ≤ 0 → AllBut run w count which now left → now ≡ moved_down w run count which
-    in-the-end now left z inv =
+    in_the_end : (now : List ℕ) (left : ℕ) → left ≤ 0 → AllBut run w count which now left → now ≡ moved_down w run count which
+    in_the_end now left z inv =
         let m = among w count which here in
         let n : all_of - left ≡ all_of = omega arith in
         let from : which * w + w ≡ suc which * w = omega arith in
@@ -111,4 +111,4 @@ shape_of-run c = c.loop-left.invariant.long
 
 pub returns : goal.returns
 returns c =
-    in-the-end c.args.run.now c.args.w c.args.count c.args.which c.requires.0 c.requires.1 c.loop-left.run c.loop-left.left c.loop-left-test.false c.loop-left.invariant
+    in_the_end c.args.run.now c.args.w c.args.count c.args.which c.requires.0 c.requires.1 c.loop-left.run c.loop-left.left c.loop-left-test.false c.loop-left.invariant

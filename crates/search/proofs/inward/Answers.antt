@@ -13,15 +13,15 @@ use Rattle.search_rule.specs.Rule.{points_in, attempt, is_wide, halfway, counted
 use Rattle.search_rule.proofs.Turns.{Fits, after, handed_on, between_used, turns_some, turns_fewer, stage_narrow, stage_none, turn}
 use Rattle.search_proposals.specs.Proposals.{proposed}
 use Rattle.search_proposals.proofs.Fits.{offer_fits}
-use Rattle.search.proofs.inward.Invariants.{left-from}
+use Rattle.search.proofs.inward.Invariants.{left_from}
 use Rattle.search.proofs.inward.Goals as goal
 
 -- A turn of the search as the code takes it: what is left after it is what was left before it.
-search-turn : (i : Initial) (tau : Seconds) (left n : ℕ) (s : Pair) → 0 < left → is_wide s ≡ true
+search_turn : (i : Initial) (tau : Seconds) (left n : ℕ) (s : Pair) → 0 < left → is_wide s ≡ true
     → (b : Bool) {p : ℕ} {x : Next} → p ≡ pick b (proposed i tau s) 0 → x ≡ counted n (attempt (trial_at i tau) s (pick (eqb p 0) (halfway s) p))
-    → after x (left-from i tau (eqb p 0) (pick (eqb p 0) (left - 1) left)) ≡ counted n (left-from i tau b left s)
-search-turn i tau left n s h w b {p} e g =
-    ap (λ (y : Next). after y (left-from i tau (eqb p 0) (pick (eqb p 0) (left - 1) left))) g
+    → after x (left_from i tau (eqb p 0) (pick (eqb p 0) (left - 1) left)) ≡ counted n (left_from i tau b left s)
+search_turn i tau left n s h w b {p} e g =
+    ap (λ (y : Next). after y (left_from i tau (eqb p 0) (pick (eqb p 0) (left - 1) left))) g
     ∙ sym (turn (trial_at i tau) (proposed i tau) left n s h w b p e (subst (Fits s) (sym e) (offer_fits s i tau b)))
 
 pub loop-left-init : goal.loop-left-init
@@ -50,7 +50,7 @@ returns-in_default c =
     let some = w.loop-left-test.true in
     let wide = sym w.is_wide.ensures ∙ c.if-not-is_wide.false in
     handed_on t.result _ c.in_default.not-Between
-    ∙ search-turn a.initial a.tau l.left l.points l.pair some wide (eqb l.offered 0) o.ensures t.ensures
+    ∙ search_turn a.initial a.tau l.left l.points l.pair some wide (eqb l.offered 0) o.ensures t.ensures
     ∙ l.invariant.0
 
 pub loop-left-smaller : goal.loop-left-smaller
@@ -72,7 +72,7 @@ loop-left-preserved c =
     let some = w.loop-left-test.true in
     let wide = sym w.is_wide.ensures ∙ c.if-not-is_wide.false in
     rw c.rounds_after-left.ensures (
-      search-turn a.initial a.tau l.left l.points l.pair some wide (eqb l.offered 0) o.ensures (sym next ∙ t.ensures) ∙ l.invariant.0,
+      search_turn a.initial a.tau l.left l.points l.pair some wide (eqb l.offered 0) o.ensures (sym next ∙ t.ensures) ∙ l.invariant.0,
       omega (arith, turns_fewer l.left some (eqb l.offered 0) _ o.ensures, between_used _ _ _ t.ensures next),
       turns_some l.left some o.result,
     )

@@ -14,12 +14,12 @@ use Rattle.search.specs.Search.{inward_at}
 use Rattle.search.proofs.inward.Given as goal
 
 -- What is left to do, before a turn that may propose or that takes the halving place.
-abbrev pub left-from : Initial → Seconds → Bool → ℕ → Pair → History
-left-from i tau = stage (trial_at i tau) (proposed i tau)
+abbrev pub left_from : Initial → Seconds → Bool → ℕ → Pair → History
+left_from i tau = stage (trial_at i tau) (proposed i tau)
 
 abbrev pub invariant-loop-left : goal.invariant-loop-left
 invariant-loop-left l =
-    (counted l.points (left-from l.initial' l.tau (eqb l.offered 0) l.left l.pair) ≡ counted l.used (inward_at l.initial' l.tau l.initial.pair))
+    (counted l.points (left_from l.initial' l.tau (eqb l.offered 0) l.left l.pair) ≡ counted l.used (inward_at l.initial' l.tau l.initial.pair))
     × (l.points + turns_left (eqb l.offered 0) l.left ≤ 227)
     × (0 < turns_left (eqb l.offered 0) l.left)
 

@@ -27,10 +27,10 @@ whole i tau h e o =
     (inward_same (trial_at i tau) (proposed i tau) 63 0)
     (o ∙ ap (λ (q : ℕ). counted 0 (outward_at i tau q)) e)
 
-of-interval : (i : Initial) (tau : Seconds) (h : Anomaly) → eq tau.0 n0 ≡ false
+of_interval : (i : Initial) (tau : Seconds) (h : Anomaly) → eq tau.0 n0 ≡ false
     → finding_of tau (counted 0 (history_at i tau (place_of h.0))) ≡ search_of i tau h
 unfolding search_choosing
-of-interval i tau h e = sym (rw e)
+of_interval i tau h e = sym (rw e)
 
 pub returns-then-tau : goal.returns-then-tau
 unfolding search_choosing
@@ -55,7 +55,7 @@ returns-in-Between c =
     (c.inward.ensures
     ∙ ap (λ (y : Next). after y (inward_at a.initial a.tau)) (sym c.in-Between.is)
     ∙ whole a.initial a.tau a.h o.place.ensures o.outward-next.ensures)
-    ∙ of-interval a.initial a.tau a.h o.if-tau.false
+    ∙ of_interval a.initial a.tau a.h o.if-tau.false
 
 pub returns-in_default : goal.returns-in_default
 returns-in_default c =
@@ -64,4 +64,4 @@ returns-in_default c =
     ∙ ap (finding_of a.tau)
     (handed_on c.outward-next.result (inward_at a.initial a.tau) c.in_default.not-Between
     ∙ whole a.initial a.tau a.h c.place.ensures c.outward-next.ensures)
-    ∙ of-interval a.initial a.tau a.h c.if-tau.false
+    ∙ of_interval a.initial a.tau a.h c.if-tau.false

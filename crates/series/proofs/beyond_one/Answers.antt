@@ -6,23 +6,23 @@ use Rattle.bits.specs.Arithmetic.{n1}
 use Rattle.series.specs.Series.{beyond_one}
 use Rattle.series.proofs.beyond_one.Goals as goal
 
-or-false : (b : Bool) → b || false ≡ b
-or-false true = refl
-or-false false = refl
+or_false : (b : Bool) → b || false ≡ b
+or_false true = refl
+or_false false = refl
 
-two-sided : (l : Float) → lt n1 l || lt l (neg n1) ≡ beyond_one l
+two_sided : (l : Float) → lt n1 l || lt l (neg n1) ≡ beyond_one l
 unfolding beyond_one lt neg of_bits
-two-sided nan = refl
-two-sided (inf true) = refl
-two-sided (inf false) = refl
-two-sided (fin true m e) = refl
-two-sided (fin false m e) = or-false _
+two_sided nan = refl
+two_sided (inf true) = refl
+two_sided (inf false) = refl
+two_sided (fin true m e) = refl
+two_sided (fin false m e) = or_false _
 
 above : (l : Float) → lt n1 l ≡ true → lt n1 l ≡ beyond_one l
-above l h = h ∙ simp h at (two-sided l)
+above l h = h ∙ simp h at (two_sided l)
 
 not_above : (l : Float) → lt n1 l ≡ false → lt l (neg n1) ≡ beyond_one l
-not_above l h = simp h at (two-sided l)
+not_above l h = simp h at (two_sided l)
 
 pub returns-then-l : goal.returns-then-l
 returns-then-l c = above c.args.l c.if-l.true

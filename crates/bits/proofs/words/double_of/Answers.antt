@@ -16,15 +16,15 @@ only_nan nan e = refl
 only_nan (inf s) e = let z : ◌≡◌ {A = ℕ} 0 1 = cc in absurd (omega arith)
 only_nan (fin s m k) e = let z : ◌≡◌ {A = ℕ} 0 1 = cc in absurd (omega arith)
 
-nan-word : (w : ℕ) → infinity < w % 2 ^ 63 → nan ≡ of_bits binary64 w
-nan-word w h = only_nan (of_bits binary64 w) (sym (nan_bits_is binary64 w) ∙ nan_bits_above binary64 w ∙ lt-ltb infinity (w % 2 ^ 63) h)
+nan_word : (w : ℕ) → infinity < w % 2 ^ 63 → nan ≡ of_bits binary64 w
+nan_word w h = only_nan (of_bits binary64 w) (sym (nan_bits_is binary64 w) ∙ nan_bits_above binary64 w ∙ lt-ltb infinity (w % 2 ^ 63) h)
 
 quotient : div binary64 (of_bits binary64 0) (of_bits binary64 0) ≡ nan
 unfolding div of_bits
 quotient = refl
 
 pub returns-then-word-gt-INFINITY : goal.returns-then-word-gt-INFINITY
-returns-then-word-gt-INFINITY c = quotient ∙ nan-word c.args.word c.if-word-gt-INFINITY.true
+returns-then-word-gt-INFINITY c = quotient ∙ nan_word c.args.word c.if-word-gt-INFINITY.true
 
 pub float_from_bits-result : goal.float_from_bits-result
 float_from_bits-result c = no_nan_word c.args.word c.if-word-gt-INFINITY.false

@@ -24,11 +24,11 @@ signed : (m : ℕ) (e : ℤ) → word (fin true m e) ≡ 2 ^ 63 + word (fin fals
 unfolding word to_bits
 signed m e = omega arith
 
-magnitude-fits : (x : Float) → T (fits binary64 x) → T (fits binary64 (magnitude x))
+magnitude_fits : (x : Float) → T (fits binary64 x) → T (fits binary64 (magnitude x))
 unfolding fits
-magnitude-fits nan f = tt
-magnitude-fits (inf s) f = tt
-magnitude-fits (fin s m e) f = signless s false m e f
+magnitude_fits nan f = tt
+magnitude_fits (inf s) f = tt
+magnitude_fits (fin s m e) f = signless s false m e f
 
 cleared : (x : Float) → T (fits binary64 x) → ne x x ≡ false → to_bits binary64 x % 2 ^ 63 ≡ to_bits binary64 (magnitude x)
 unfolding word to_bits
@@ -38,18 +38,18 @@ cleared (inf false) f h = refl
 cleared (fin true m e) f h = omega (arith, signed m e, to_bits-lt binary64 (fin true m e) f)
 cleared (fin false m e) f h = omega (arith, signed m e, to_bits-lt binary64 (fin true m e) (signless false true m e f))
 
-magnitude-not-nan : (x : Float) → ne x x ≡ false → is_nan (magnitude x) ≡ false
+magnitude_not_nan : (x : Float) → ne x x ≡ false → is_nan (magnitude x) ≡ false
 unfolding is_nan
-magnitude-not-nan nan h = absurd (true≢false (sym nan_differs ∙ h))
-magnitude-not-nan (inf s) h = refl
-magnitude-not-nan (fin s m e) h = refl
+magnitude_not_nan nan h = absurd (true≢false (sym nan_differs ∙ h))
+magnitude_not_nan (inf s) h = refl
+magnitude_not_nan (fin s m e) h = refl
 
 module _ (x : Float) (f : T (fits binary64 x)) (h : ne x x ≡ false) where
   back : of_bits binary64 (to_bits binary64 x % 2 ^ 63) ≡ magnitude x
-  back = ap (of_bits binary64) (cleared x f h) ∙ of_bits-to_bits binary64 (magnitude x) (magnitude-fits x f)
+  back = ap (of_bits binary64) (cleared x f h) ∙ of_bits-to_bits binary64 (magnitude x) (magnitude_fits x f)
 
   readable : T (not (nan_bits binary64 (to_bits binary64 x % 2 ^ 63)))
-  readable = subst (λ (b : Bool). T (not b)) (sym (nan_bits_is binary64 (to_bits binary64 x % 2 ^ 63) ∙ ap is_nan back ∙ magnitude-not-nan x h)) tt
+  readable = subst (λ (b : Bool). T (not b)) (sym (nan_bits_is binary64 (to_bits binary64 x % 2 ^ 63) ∙ ap is_nan back ∙ magnitude_not_nan x h)) tt
 
 pub returns-then-x : goal.returns-then-x
 returns-then-x c = let e = differs_from_itself _ (subst T (sym c.if-x.true) tt) in subst (λ (y : Float). y ≡ magnitude y) (sym e) refl

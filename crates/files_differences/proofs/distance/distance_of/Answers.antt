@@ -9,11 +9,11 @@ use Rattle.files_differences.proofs.distance.distance_of.Goals as goal
 use Rattle.files_differences.proofs.distance.distance_of.Goals.{Else-v-w}
 
 module _ (v w : ℕ) where
-  two-sides : Side v → Side w → (v / 2 ^ 63 ≡ w / 2 ^ 63 → ⊥) → v % 2 ^ 63 + w % 2 ^ 63 ≡ distance_of v w
-  two-sides (inl p) (inl q) n = absurd (n (omega (arith, p.0, q.0)))
-  two-sides (inl p) (inr q) n = omega (arith, p.1, q.1)
-  two-sides (inr p) (inl q) n = omega (arith, p.1, q.1)
-  two-sides (inr p) (inr q) n = absurd (n (omega (arith, p.0, q.0)))
+  two_sides : Side v → Side w → (v / 2 ^ 63 ≡ w / 2 ^ 63 → ⊥) → v % 2 ^ 63 + w % 2 ^ 63 ≡ distance_of v w
+  two_sides (inl p) (inl q) n = absurd (n (omega (arith, p.0, q.0)))
+  two_sides (inl p) (inr q) n = omega (arith, p.1, q.1)
+  two_sides (inr p) (inl q) n = omega (arith, p.1, q.1)
+  two_sides (inr p) (inr q) n = absurd (n (omega (arith, p.0, q.0)))
 
   one_side : Side v → Side w → v / 2 ^ 63 ≡ w / 2 ^ 63 → (v % 2 ^ 63 - w % 2 ^ 63) + (w % 2 ^ 63 - v % 2 ^ 63) ≡ distance_of v w
   one_side (inl p) (inl q) e = omega (arith, p.1, q.1)
@@ -30,7 +30,7 @@ apart c =
 
 pub returns-then-v-w : goal.returns-then-v-w
 returns-then-v-w c =
-    two-sides c.args.v c.args.w (side _ (omega (arith, c.ranges.v))) (side _ (omega (arith, c.ranges.w))) c.if-v-w.true
+    two_sides c.args.v c.args.w (side _ (omega (arith, c.ranges.v))) (side _ (omega (arith, c.ranges.w))) c.if-v-w.true
 
 pub returns-then-one-other : goal.returns-then-one-other
 returns-then-one-other c = omega (arith, apart c.before, c.if-one-other.true)

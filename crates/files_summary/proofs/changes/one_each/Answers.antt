@@ -8,8 +8,8 @@ use borrow.Author.Tests.{eq-eqb, ne_eqb, eqb-true, eqb-false}
 use lib.Dec.{eqb}
 use Rattle.files_summary.proofs.changes.one_each.Goals as goal
 
-by-quotient : (each long centres : ℕ) → 0 < each → long % each ≡ 0 → eqb (long / each) centres ≡ eqb long (centres * each)
-by-quotient each long centres h whole = go (eqb (long / each) centres) refl
+by_quotient : (each long centres : ℕ) → 0 < each → long % each ≡ 0 → eqb (long / each) centres ≡ eqb long (centres * each)
+by_quotient each long centres h whole = go (eqb (long / each) centres) refl
   where
     go : (b : Bool) → eqb (long / each) centres ≡ b → b ≡ eqb long (centres * each)
     go true e =
@@ -24,4 +24,4 @@ pub returns-then-long-each-ne0 : goal.returns-then-long-each-ne0
 returns-then-long-each-ne0 c = let a = c.args in sym (ne_eqb a.long (a.centres * a.each) (λ e. c.if-long-each-ne0.true (ap (λ (n : ℕ). n % a.each) e ∙ mul-mod_left a.centres a.each)))
 
 pub returns : goal.returns
-returns c = let a = c.args in by-quotient a.each a.long a.centres (omega (arith, c.if-each-eq0.false)) c.if-long-each-ne0.false
+returns c = let a = c.args in by_quotient a.each a.long a.centres (omega (arith, c.if-each-eq0.false)) c.if-long-each-ne0.false

@@ -23,8 +23,8 @@ module _ (states : List ℕ) (wide its epoch count centre : ℕ) where
       let z : next.nans ≡ (with_state tally centre number word).nans = ap (λ (t : Tally). t.nans) e in
       record {
         few = omega (arith, inv.few);
-        few-numbers = omega (arith, inv.few, inv.few-numbers, grow.0, s, p);
-        few-nans = omega (arith, inv.few, inv.few-nans, grow.1, z, p);
+        few_numbers = omega (arith, inv.few, inv.few-numbers, grow.0, s, p);
+        few_nans = omega (arith, inv.few, inv.few-nans, grow.1, z, p);
         same = rw (e, ← n) (sym (gather_step wide its epoch centre states count tally k (omega (arith, p, inv.few)) c d) ∙ inv.same);
       }
 
@@ -38,8 +38,8 @@ loop-left-init c =
     let z : a.count - a.count ≡ 0 = omega arith in
     record {
       few = omega arith;
-      few-numbers = omega arith;
-      few-nans = omega arith;
+      few_numbers = omega arith;
+      few_nans = omega arith;
       same = ap (from_state a.wide a.its a.epoch a.centre a.states.now a.count no_tally) z;
     }
 

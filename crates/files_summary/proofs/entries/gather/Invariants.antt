@@ -10,8 +10,8 @@ use Rattle.files_summary.proofs.entries.gather.Given as goal
 -- So many states are left.
 pub record AllBut (states : List ℕ) (wide its epoch count centre : ℕ) (tally : Tally) (left : ℕ) : Type 0 where
   pub few : left ≤ count
-  pub few-numbers : tally.states ≤ count - left
-  pub few-nans : tally.nans ≤ count - left
+  pub few_numbers : tally.states ≤ count - left
+  pub few_nans : tally.nans ≤ count - left
   pub same : from_state wide its epoch centre states count tally (count - left) ≡ from_state wide its epoch centre states count no_tally 0
 
 abbrev pub invariant-loop-left : goal.invariant-loop-left

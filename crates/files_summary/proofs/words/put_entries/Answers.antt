@@ -28,8 +28,8 @@ module _ (edition : Edition) (states : List (List ℕ)) (centres : ℕ) where
         same = rw (more, put-it, front_put entry_width list c (entry_words entry) refl (omega (arith, inv.size)), inv.same, e, one_more edition states c);
       }
 
-  in-the-end : (list : List ℕ) (left : ℕ) → left ≤ 0 → AllBut edition states centres list left → list ≡ as_words (entries_of edition states centres)
-  in-the-end list left z inv =
+  in_the_end : (list : List ℕ) (left : ℕ) → left ≤ 0 → AllBut edition states centres list left → list ≡ as_words (entries_of edition states centres)
+  in_the_end list left z inv =
       let c : centres - left ≡ centres = omega arith in
       sym (take_all ((centres - left) * entry_width) list (omega (arith, inv.size))) ∙ inv.same ∙ ap (λ (k : ℕ). as_words (entries_of edition states k)) c
 
@@ -57,4 +57,4 @@ shape_of-list c = c.loop-left.invariant.size ∙ sym c.requires.1
 pub returns : goal.returns
 returns c =
     let a = c.args in
-    in-the-end a.edition (records_of (state_width a.edition) a.states.now a.count) a.centres c.loop-left.list c.loop-left.left c.loop-left-test.false c.loop-left.invariant
+    in_the_end a.edition (records_of (state_width a.edition) a.states.now a.count) a.centres c.loop-left.list c.loop-left.left c.loop-left-test.false c.loop-left.invariant

@@ -25,8 +25,8 @@ in_place arc a row column h =
     λ i. entry_of arc a (r i) (s i)
 
 -- The same list, at a number that is written otherwise.
-at-number : (f : ℕ → Float) (table : List ℕ) {m n : ℕ} → m ≡ n → take m table ≡ words_of (up_to m f) → take n table ≡ words_of (up_to n f)
-at-number f table e h = rw e at h
+at_number : (f : ℕ → Float) (table : List ℕ) {m n : ℕ} → m ≡ n → take m table ≡ words_of (up_to m f) → take n table ≡ words_of (up_to n f)
+at_number f table e h = rw e at h
 
 pub loop-row-init : goal.loop-row-init
 unfolding up_to
@@ -35,7 +35,7 @@ loop-row-init c = (refl, omega arith, refl)
 pub loop-column-init : goal.loop-column-init
 loop-column-init c =
     let o = c.loop-row in
-    (o.invariant.0, omega arith, at-number _ o.table (omega arith) o.invariant.2)
+    (o.invariant.0, omega arith, at_number _ o.table (omega arith) o.invariant.2)
 
 pub loop-column-preserved : goal.loop-column-preserved
 loop-column-preserved c =
@@ -45,7 +45,7 @@ loop-column-preserved c =
     let w = c.word_of.ensures ∙ ap (to_bits binary64) (c.entry.ensures ∙ in_place _ _ o.row at.column c.loop-column-test.true) in (
       length-set at.table k c.word_of.result ∙ at.invariant.0,
       omega arith,
-      at-number _ _ (omega arith) (more _ at.table k c.word_of.result (omega (arith, at.invariant.0)) at.invariant.2 w),
+      at_number _ _ (omega arith) (more _ at.table k c.word_of.result (omega (arith, at.invariant.0)) at.invariant.2 w),
     )
 
 pub loop-row-preserved : goal.loop-row-preserved
@@ -53,7 +53,7 @@ loop-row-preserved c =
     let at = c.loop-column in (
       at.invariant.0,
       omega arith,
-      at-number _ at.table (omega (arith, at.invariant.1)) at.invariant.2,
+      at_number _ at.table (omega (arith, at.invariant.1)) at.invariant.2,
     )
 
 pub returns : goal.returns
@@ -62,4 +62,4 @@ returns c =
     let at = c.loop-row in
     let e : 6 * at.row ≡ 36 = omega (arith, at.invariant.1) in
     simp (← c.u_of.ensures, ← c.matrix_of-a.ensures)
-    (sym (take_all 36 at.table (omega (arith, at.invariant.0))) ∙ at-number _ at.table e at.invariant.2)
+    (sym (take_all 36 at.table (omega (arith, at.invariant.0))) ∙ at_number _ at.table e at.invariant.2)
