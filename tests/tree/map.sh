@@ -48,11 +48,13 @@ for folder in crates/*/must-fail; do
     [ "$(find "$folder" -name '*.edit' | wc -l)" -le 2 ] || say "$folder has more than two wrong programs: the others belong into tests/wrong"
 done
 
-# ---- What the map says a breach is caught by: names with an underscore behind "caught by:" are wrong programs.
+# ---- What the map says a breach is caught by: names with an underscore behind "caught by:" are wrong programs, or cases and laws of the crates.
 
+grep -rhoE --include='*.antt' '^(pub |abbrev |unfoldable |opaque )*[^ ]+ :' crates/*/specs crates/*/proofs | sed 's/ :$//; s/.* //' | sort -u >"$room/stated"
 for name in $(awk '/^ *- caught by:/ { on = 1 } /^ *- / && !/caught by:/ { on = 0 } /^$/ { on = 0 } on { print }' $map |
     grep -o '`[a-z0-9]*_[a-z0-9_]*`' | tr -d '`' | sort -u); do
-    [ -n "$(find crates/*/must-fail tests/wrong -name "$name.edit")" ] || say "$map names $name, and there is no wrong program of that name"
+    [ -n "$(find crates/*/must-fail tests/wrong -name "$name.edit")" ] || grep -qx -- "$name" "$room/stated" ||
+        say "$map names $name, and there is no wrong program, case or law of that name"
 done
 
 # ---- What a wrong program takes out.
