@@ -146,8 +146,7 @@ held 'a closed output' "$room/empty" 'standard output: Bad file descriptor'
 propagate "$example" >/dev/full 2>"$room/said"
 held 'a full device' "$room/empty" 'standard output: No space left on device'
 
-# A pipe whose reader goes away in the middle. Where the signal of a broken pipe is ignored, the program
-# says it; where it is not, the signal ends the program before it can.
+# A pipe whose reader goes away in the middle: the program says it, as its runtime ignores the signal.
 { (trap '' PIPE && propagate "$room/full" 2>"$room/said"); } | head -c 10 >"$room/wrote"
 expected <"$room/full" | head -c 10 >"$room/expected"
 held 'a pipe that nobody reads to its end' "$room/expected" 'standard output: Broken pipe'

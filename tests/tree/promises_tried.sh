@@ -114,4 +114,20 @@ fi
     done
 } | sort >wanted
 sort said | diff wanted - || fail 'the lines marked < are not said, and those marked > should not be'
-echo "promises: of eight functions that are hollow, each in another way, all are told, and the sound one is not"
+
+# A C call in a private module of a library, which no archive has.
+cat >>crates/tried/src/answers/more.rt <<'SOURCE'
+
+#[unsafe(no_mangle)]
+pub extern "C" fn tried_exported(word: u64) -> u64 {
+    word
+}
+SOURCE
+if TREE=$room sh "$here/tests/tree/promises.sh" >said 2>&1; then
+    fail 'an export in a library passes'
+fi
+grep -qx '! tried: answers.more.tried_exported: a C call of a library is in no archive: it belongs into kelubashi_c' said || {
+    cut -c 1-300 said
+    fail 'an export in a library is not told'
+}
+echo "promises: of eight functions that are hollow, each in another way, all are told, and the sound one is not; an export in a library is told too"
