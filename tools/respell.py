@@ -13,7 +13,7 @@ import sys
 
 TOP = os.getcwd()
 DELIMITED = re.compile(r"[^\s(){}\[\].;,λ⌜⌝`\"@]+")
-DEFINES = re.compile(r"^\s*((?:(?:abbrev|unfoldable|pub|record|data)\s+)*)([^\s:(){}λ→=,;.]+)(?=\s*:\s|\s*[({].*:\s|\s+[({])")
+DEFINES = re.compile(r"^\s*((?:(?:abbrev|unfoldable|pub|record|data)\s+)*)([^\s:(){}λ→=,;.]+)(?=\s*:(?:\s|$)|\s*[({].*:(?:\s|$)|\s+[({])")
 OWN = sorted(os.listdir(os.path.join(TOP, "crates")))
 # Lemmas that port.py turned, whose names the functions of the same words take now.
 BY_HAND = {n: n + "_lem" for n in ("all_short", "all_words", "at_rest", "below_of", "record_of", "shown_by")}
@@ -57,6 +57,10 @@ def code_functions():
     return {m.group(1) for p in files(".rt", "crates") for m in re.finditer(r"\bfn (\w+)", text_of(p))}
 
 
+# Names of parameters.
+PARAMETERS = {"ofPosition": "of_position", "byPosition": "by_position"}
+
+
 def collect():
     defined, functions, imported, fields = {}, set(), set(), set()
     for p in files(".antt", "crates"):
@@ -90,7 +94,7 @@ def table():
     kit = {n for n in imported if re.fullmatch(r"[a-z][a-z0-9_]+", n)}
     names = functions | kit
     taken = functions | kit | code_functions() | {snake(n) for n in defined if "-" not in n}
-    new = {}
+    new = dict(PARAMETERS)
     for n in sorted(defined):
         if n in imported or re.search(r"[^\w'⊕⊖⊗⊘₀-₉^-]", n):
             continue
