@@ -1,5 +1,5 @@
 # Whether a file of laws has that of a function: one whose whole type is OneAnswer of the function's own kinds and of its contract as it stands, or OneAnswerOf
-# where it is proved by a walk of its code, and which stands under no premise.
+# of its contract as an assertion of the logic, and which stands under no premise.
 #
 #     awk -v crate=CRATE -v path=PATH -f law.awk crates/CRATE/proofs/OneAnswers.antt
 BEGIN { proofs = "Rattle." crate ".proofs." path; contract = "Rattle." crate ".specs.contracts." path }
@@ -17,9 +17,9 @@ wanted != "" { if ($1 == wanted) found = 1; wanted = "" }
     reads = $8; sub(/\.Post$/, "", reads)
     if (kinds == again && named[kinds] == proofs ".Kinds" && named[reads] == proofs ".Reads") wanted = $2
 }
-/^pub [^ ]+ : [{]M : Type 1[}] → OneAnswerOf M [^ ]+\.ended [^ ]+\.clauses$/ {
-    ended = $(NF - 1); sub(/\.ended$/, "", ended)
-    clauses = $NF; sub(/\.clauses$/, "", clauses)
+/^pub [^ ]+ : [{]M : Type 1[}] → OneAnswerOf M [^ ]+\.ended \(λ 𝓤 𝓛\. [^ ]+\.clauses 𝓛\)$/ {
+    ended = $(NF - 5); sub(/\.ended$/, "", ended)
+    clauses = $(NF - 1); sub(/\.clauses$/, "", clauses)
     if (ended == clauses && named[ended] == contract) wanted = $2
 }
 END { exit !(found && !bad) }
