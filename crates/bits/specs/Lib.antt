@@ -1,4 +1,5 @@
 -- Layer 1: the arithmetic of doubles, their words, runs of them, and the square root. Read the files in this order.
+pub mod Refusal
 pub mod Choice
 pub mod Arithmetic
 pub mod Words
