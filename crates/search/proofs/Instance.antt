@@ -1,12 +1,13 @@
 -- The search of document 01 keeps its promise, with any proposal: the general theorems at its trial points.
 use Prim.Native.Nat.{ℕ, ◌+◌}
-use mathlib.Core.Path.{◌≡◌, refl, ap, ◌∙◌, subst}
+use mathlib.Core.Path.{◌≡◌, refl, ap, sym, ◌∙◌, subst}
 use mathlib.Core.Bool.{Bool, true, false}
 use mathlib.Core.List.{List}
 use mathlib.Core.Logic.{⊎_elim, ◌↔◌}
 use native.Mathlib.Omega.{arith}
 use lib.ListN.{length}
 use lib.Ieee.{Float, neg, eq}
+use Rattle.bits.specs.declared.refusal.Refusal.TheVariants as reason
 use Rattle.bits.specs.Choice.{pick}
 use Rattle.bits.specs.Arithmetic.{n0}
 use Rattle.bits.specs.Words.{place_of}
@@ -25,9 +26,7 @@ use Rattle.search_rule.proofs.Rounds.{points_sharp}
 use Rattle.search_rule.proofs.Reach.{finds, found_answers}
 use Rattle.search_rule.proofs.Refusals.{all_short_lem, all_short_points, some_unreadable, last_some, unreadable_last, ends_so}
 use Rattle.search_proposals.specs.Proposals.{three_proposals}
-use Rattle.search.specs.declared.figures.Finding.{Finding}
-use Rattle.search.specs.declared.figures.Finding.TheVariants as finding
-use Rattle.search.specs.Search.{history_by, finding_by, finding_of, search_choosing, search_by, search_of}
+use Rattle.search.specs.Search.{Finding, found_with, refused_with, history_by, finding_by, finding_of, search_choosing, search_by, search_of}
 use Rattle.search.specs.SearchPromise.{used_in, tried_by, tried_at, Says, Searched, Promise, Demand3, SameButAnomaly, PointsStay}
 
 -- "Place 0 has R = −τ here"; "A place at or above 2047·2^52 is unreadable."
@@ -46,14 +45,14 @@ module _ (tau : Seconds) (n : ℕ) where
   used_at unreadable = refl
   used_at all_short = refl
 
-  finding_answers : (e : Ending) (p : ℕ) → IsAnswer e p → finding_at e ≡ finding.Found (anomaly_at tau p) n
+  finding_answers : (e : Ending) (p : ℕ) → IsAnswer e p → finding_at e ≡ found_with (anomaly_at tau p) n
   finding_answers (between s) p x = rw x
   finding_answers (exact q) p x = rw x
   finding_answers unreadable p x = absurd x
   finding_answers all_short p x = absurd x
 
   module _ (i : Initial) where
-    found_at : (e : Ending) → IsFound (trial_at i tau) e → (p : ℕ) × (finding_at e ≡ finding.Found (anomaly_at tau p) n) × IsAnomaly (trial_at i tau) p
+    found_at : (e : Ending) → IsFound (trial_at i tau) e → (p : ℕ) × (finding_at e ≡ found_with (anomaly_at tau p) n) × IsAnomaly (trial_at i tau) p
     found_at e x = let a = found_answers (trial_at i tau) e x in (a.0, finding_answers e a.0 a.1, a.2)
 
 -- ---- What is found after the history at these points, with any proposal.
@@ -80,7 +79,7 @@ module _ (pr : Proposal) (i : Initial) (tau : Seconds) (first : ℕ) where
       (⊎_elim (λ e. rw e (unreadable_last ev pr first error e)) (λ e. rw e ((all_short_lem ev pr first error).0 e)))
       (ends_so ev pr first error (sorts_at i tau))
 
-  given_finds : Findable ev first → (psi : Anomaly) × (given ≡ finding.Found psi (used_in given))
+  given_finds : Findable ev first → (psi : Anomaly) × (given ≡ found_with psi (used_in given))
   given_finds f =
       let x = found_at tau count i ending (finds ev pr first error (sorts_at i tau) f) in
       (anomaly_at tau x.0, rw (used_at tau count ending) x.1)
@@ -120,7 +119,7 @@ module _ (pr : Proposal) (i : Initial) (tau : Seconds) (h : Anomaly) (interval :
       record {
         place = y.0;
         points = n;
-        found = x.1 ∙ ap (λ (psi : Anomaly). finding.Found psi n) y.1;
+        found = x.1 ∙ ap (λ (psi : Anomaly). found_with psi n) y.1;
         anomaly = y.2;
         used = kept.counts;
         at_most = omega (arith, kept.at_most);
@@ -139,17 +138,17 @@ module _ (i : Initial) (tau : Seconds) (h : Anomaly) (interval : eq tau.0 n0 ≡
   demand3 = demand3_by (three_proposals i tau) i tau h interval
 
   -- Refusal 5, with 41 points.
-  pub refusal5 : ((n : ℕ) × (search_of i tau h ≡ finding.AllShort n)) ↔ AllOutwardShort (trial_at i tau) (place_of h.0)
+  pub refusal5 : ((n : ℕ) × (search_of i tau h ≡ refused_with reason.AllShort n)) ↔ AllOutwardShort (trial_at i tau) (place_of h.0)
   refusal5 = (λ x. rw x.1 at kept.says, λ a. (41, kept.all_short_lem a))
 
-  pub refusal5_points : (n : ℕ) → search_of i tau h ≡ finding.AllShort n → n ≡ 41
-  refusal5_points n e = cc (kept.all_short_lem (refusal5.0 (n, e)))
+  pub refusal5_points : (n : ℕ) → search_of i tau h ≡ refused_with reason.AllShort n → n ≡ 41
+  refusal5_points n e = ap used_in (sym e ∙ kept.all_short_lem (refusal5.0 (n, e)))
 
   -- Refusal 6, with the points used so far, of which the last is the unreadable one.
-  pub refusal6 : ((n : ℕ) × (search_of i tau h ≡ finding.Unreadable n)) ↔ SomeUnreadable points
+  pub refusal6 : ((n : ℕ) × (search_of i tau h ≡ refused_with reason.Unreadable n)) ↔ SomeUnreadable points
   refusal6 = (λ x. last_some (rw x.1 at kept.says), λ u. (used_in (search_of i tau h), kept.unreadable u))
 
-  pub refusal6_points : (n : ℕ) → search_of i tau h ≡ finding.Unreadable n → (n ≡ length points) × LastUnreadable points
+  pub refusal6_points : (n : ℕ) → search_of i tau h ≡ refused_with reason.Unreadable n → (n ≡ length points) × LastUnreadable points
   refusal6_points n e = (rw e at kept.counts, rw e at kept.says)
 
 -- ---- The choice between the ends touches ψ alone.
@@ -168,4 +167,4 @@ module _ (choose : Choosing) (tau : Seconds) where
 pub points_stay : PointsStay
 unfolding search_choosing
 points_stay choose pr i tau h =
-    picked_stays choose tau (eq tau.0 n0) (finding.Found (record { 0 = n0 }) 0) (counted 0 (history_by pr i tau (place_of h.0))) refl
+    picked_stays choose tau (eq tau.0 n0) (found_with (record { 0 = n0 }) 0) (counted 0 (history_by pr i tau (place_of h.0))) refl

@@ -1,7 +1,9 @@
 -- The search of document 01, with T-01 of document 02: the rule's history at the time error's trial points, and the end of its pair that is answered. It is
 -- written with any proposal; document 01's three are one instance.
-use Rattle.std.specs.Prelude.{ℕ, []}
+use Rattle.std.specs.Prelude.{ℕ, [], Result, Ok, Err}
 use Rattle.std.specs.Float.Ieee.{neg, eq}
+use Rattle.bits.specs.declared.refusal.Refusal.{Refusal}
+use Rattle.bits.specs.declared.refusal.Refusal.TheVariants as reason
 use Rattle.bits.specs.Choice.{pick}
 use Rattle.bits.specs.Arithmetic.{n0}
 use Rattle.bits.specs.Words.{place_of}
@@ -15,8 +17,18 @@ use Rattle.search_rule.specs.declared.pair.Next.TheVariants.{Between, Exact, Unr
 use Rattle.search_rule.specs.Rule.{Proposal, History, outward_part, inward, history, counted}
 use Rattle.search_rule.specs.Nearer.{Choosing, nearer_end}
 use Rattle.search_proposals.specs.Proposals.{three_proposals}
-use Rattle.search.specs.declared.figures.Finding.{Finding}
-use Rattle.search.specs.declared.figures.Finding.TheVariants as finding
+use Rattle.search.specs.declared.figures.Found.{Found}
+use Rattle.search.specs.declared.figures.Refused.{Refused}
+
+-- What a search gives, with the trial points used: an anomaly, or a refusal, which is that all outward points are short, or that a point is unreadable.
+abbrev pub Finding : Type 0
+Finding = Result Found Refused
+
+abbrev pub found_with : (psi : Anomaly) (points : ℕ) → Finding
+found_with psi points = Ok (record { psi = psi; points = points })
+
+abbrev pub refused_with : Refusal → (points : ℕ) → Finding
+refused_with refusal points = Err (record { refusal = refusal; points = points })
 
 -- The whole history, outward from the place of |H|. "Place 0 has R = −τ here."
 abbrev pub history_by : Proposal → Initial → Seconds → (first : ℕ) → History
@@ -34,10 +46,10 @@ inward_at i tau s = inward (trial_at i tau) (three_proposals i tau) 63 0 [] s
 
 -- The found ψ is the exact point, or the end of the pair that is chosen.
 abbrev pub finding_by : Choosing → Seconds → Next → Finding
-finding_by choose tau (Between s n) = finding.Found (anomaly_at tau (choose s.short s.past).place) n
-finding_by choose tau (Exact p n) = finding.Found (anomaly_at tau p) n
-finding_by choose tau (Unreadable n) = finding.Unreadable n
-finding_by choose tau (AllShort n) = finding.AllShort n
+finding_by choose tau (Between s n) = found_with (anomaly_at tau (choose s.short s.past).place) n
+finding_by choose tau (Exact p n) = found_with (anomaly_at tau p) n
+finding_by choose tau (Unreadable n) = refused_with reason.Unreadable n
+finding_by choose tau (AllShort n) = refused_with reason.AllShort n
 
 -- T-01: "When the search closes on a pair, answer the end whose R has the smaller magnitude, the short one on a tie."
 abbrev pub finding_of : Seconds → Next → Finding
@@ -47,7 +59,7 @@ finding_of tau next = finding_by nearer_end tau next
 unfoldable pub search_choosing : Choosing → Proposal → Initial → Seconds → (h : Anomaly) → Finding
 search_choosing choose pr i tau h =
     pick (eq tau.0 n0)
-    (finding.Found (record { 0 = n0 }) 0)
+    (found_with (record { 0 = n0 }) 0)
     (finding_by choose tau (counted 0 (history_by pr i tau (place_of h.0))))
 
 abbrev pub search_by : Proposal → Initial → Seconds → (h : Anomaly) → Finding

@@ -1,10 +1,17 @@
 // What the search answers.
+use bits::Refusal;
 use series::Anomaly;
 
-// How a search ends, with the trial points used: at an anomaly, with all outward points short, or at an unreadable point.
+// The anomaly that is found, with the trial points used.
 #[derive(Clone, Copy)]
-pub enum Finding {
-    Found { psi: Anomaly, points: u64 },
-    AllShort { points: u64 },
-    Unreadable { points: u64 },
+pub struct Found {
+    pub psi: Anomaly,
+    pub points: u64,
+}
+
+// A refusal, with the trial points used so far: all outward points are short, or the last point is unreadable.
+#[derive(Clone, Copy, Debug, PartialEq, Eq)]
+pub struct Refused {
+    pub refusal: Refusal,
+    pub points: u64,
 }

@@ -7,6 +7,7 @@ ghost use Rattle.search_points.specs.Trial.{trial_at};
 ghost use Rattle.search_rule.specs.Rule.{outward_step, counted, step_of};
 ghost use Rattle.search.specs.Search.{outward_at, inward_at, finding_of, search_of};
 
+use bits::Refusal;
 use bits::words::FIELD;
 use search_points::{Initial, anomaly_at, try_at};
 use search_rule::{End, Next, Pair, Step, nearer_end, step_by};
@@ -15,17 +16,17 @@ use series::{Anomaly, Seconds};
 pub mod figures;
 mod turn;
 
-pub use figures::Finding;
+pub use figures::{Found, Refused};
 
 // The anomaly of the interval tau, with the trial points used, searched outward from the place of |h|, H of document 01.
-pub fn search(initial: Initial, tau: Seconds, h: Anomaly) -> Finding
+pub fn search(initial: Initial, tau: Seconds, h: Anomaly) -> Result<Found, Refused>
     ensures { result ≡ search_of initial tau h }
 {
     if tau.0 == 0.0 {
-        return Finding::Found {
+        return Ok(Found {
             psi: Anomaly(0.0),
             points: 0,
-        };
+        });
     }
     let next = outward(initial, tau, h.place());
     match next {
@@ -100,22 +101,28 @@ fn inward(initial: Initial, tau: Seconds, start: Pair, used: u64) -> Next
 }
 
 // The found anomaly is the exact point, or the nearer end of the pair.
-fn finding_of(tau: Seconds, next: Next) -> Finding
+fn finding_of(tau: Seconds, next: Next) -> Result<Found, Refused>
     ensures { result ≡ finding_of tau next }
 {
     match next {
         Next::Between(pair, points) => {
             let end = nearer_end(pair.short, pair.past);
-            Finding::Found {
+            Ok(Found {
                 psi: anomaly_at(tau, end.place),
                 points,
-            }
+            })
         }
-        Next::Exact(place, points) => Finding::Found {
+        Next::Exact(place, points) => Ok(Found {
             psi: anomaly_at(tau, place),
             points,
-        },
-        Next::Unreadable(points) => Finding::Unreadable { points },
-        Next::AllShort(points) => Finding::AllShort { points },
+        }),
+        Next::Unreadable(points) => Err(Refused {
+            refusal: Refusal::Unreadable,
+            points,
+        }),
+        Next::AllShort(points) => Err(Refused {
+            refusal: Refusal::AllShort,
+            points,
+        }),
     }
 }

@@ -9,8 +9,6 @@ use Rattle.series.specs.Series.{beyond_one, reduced_from, nested, c4_of, c5_of, 
 use Rattle.series.specs.declared.figures.Anomaly.{Anomaly}
 use Rattle.series.specs.declared.figures.Seconds.{Seconds}
 use Rattle.search_points.specs.declared.figures.Initial.{Initial}
-use Rattle.search.specs.declared.figures.Finding.{Finding}
-use Rattle.search.specs.declared.figures.Finding.TheVariants as finding
 use Rattle.search_points.specs.declared.figures.Sort.{Sort}
 use Rattle.search_points.specs.declared.figures.Sort.TheVariants.{Short, Past, Exact}
 use Rattle.search_points.specs.Residual.{time_error_of, radius_of}
@@ -19,7 +17,7 @@ use Rattle.search_rule.specs.Rule.{Ending, between, exact, unreadable, all_short
 use Rattle.search_rule.specs.Rule as rule
 use Rattle.search_rule.specs.Nearer.{nearer_end}
 use Rattle.search_proposals.specs.Proposals.{offered_at, by_radius, by_interval, by_ends, proposed}
-use Rattle.search.specs.Search.{history_at, finding_of, search_choosing, search_of}
+use Rattle.search.specs.Search.{Finding, found_with, history_at, finding_of, search_choosing, search_of}
 
 -- Figures by their words.
 abbrev number : ℕ → Float
@@ -35,7 +33,7 @@ abbrev anomaly : ℕ → Anomaly
 anomaly psi = record { 0 = number psi }
 
 abbrev found : (psi points : ℕ) → Finding
-found psi points = finding.Found (anomaly psi) points
+found psi points = found_with (anomaly psi) points
 
 -- "If τ is either zero, ψ = +0 with no trial points."
 pub no_interval : (i : Initial) (h : Anomaly) → (search_of i (seconds 0) h ≡ found 0 0) × (search_of i (seconds 0x8000000000000000) h ≡ found 0 0)

@@ -8,6 +8,7 @@ use borrow.Author.Tests.{le-leb, lt-leb, leb-true, lt-ltb, ltb-true, eqb-true, e
 use lib.Dec.{T, leb, ltb, eqb}
 use lib.Ieee.{binary64, lt, eq, of_bits, to_bits}
 use lib.Ieee.Bits.{nan_bits_is, to_bits-of_bits}
+use Rattle.std.specs.Prelude.{Ok, Err}
 use Rattle.bits.specs.Choice.{pick}
 use Rattle.bits.specs.Arithmetic.{n0}
 use Rattle.bits.specs.Words.{infinity, minus_zero, place_of}
@@ -21,8 +22,7 @@ use Rattle.search_points.proofs.Points.{signed_word, sign_bound, signed_field}
 use Rattle.search_rule.specs.declared.pair.End.{End}
 use Rattle.search_rule.specs.RulePromise.{IsAnomaly}
 use Rattle.search.specs.SearchPromise.{Says}
-use Rattle.search.specs.declared.figures.Finding.{Finding}
-use Rattle.search.specs.declared.figures.Finding.TheVariants as finding
+use Rattle.search.specs.Search.{Finding, found_with}
 use Rattle.search.proofs.Instance.{promise_by}
 use Rattle.search_check.specs.Passing.{passes}
 use Rattle.search_check.specs.Right.{has_sign_of, place_in, is_right_beyond_zero, is_right, HasSign, RightBeyondZero, Right, RightExactly, RightMeans, FoundRight, FindsRight}
@@ -151,16 +151,15 @@ place_found i tau p e a =
     record { right = subst (Right i tau) bits (inr way); same = read_back tau p l }
 
 abbrev psi_of : Finding → Anomaly → Anomaly
-psi_of (finding.Found psi n) other = psi
-psi_of (finding.AllShort n) other = other
-psi_of (finding.Unreadable n) other = other
+psi_of (Ok found) other = found.psi
+psi_of (Err refused) other = other
 
 pub finds_right : FindsRight
 finds_right pr i tau h psi n f = by (eq tau.0 n0) refl
   where
     by : (b : Bool) → eq tau.0 n0 ≡ b → FoundRight i tau psi
     by true e =
-        let same : finding.Found (record { 0 = n0 }) 0 ≡ finding.Found psi n = sym ((promise_by pr i tau h).no_interval e) ∙ f in
+        let same : found_with (record { 0 = n0 }) 0 ≡ found_with psi n = sym ((promise_by pr i tau h).no_interval e) ∙ f in
         subst (FoundRight i tau) (ap (λ (x : Finding). psi_of x psi) same) (zero_found i tau e)
     by false e =
         let said = subst (Says pr i tau (place_of h.0)) f ((promise_by pr i tau h).interval e).says in

@@ -12,8 +12,7 @@ use Rattle.search_points.specs.declared.figures.Initial.{Initial}
 use Rattle.search_points.specs.Trial.{anomaly_at, trial_at}
 use Rattle.search_rule.specs.Rule.{Proposal}
 use Rattle.search_rule.specs.RulePromise.{IsAnomaly}
-use Rattle.search.specs.Search.{search_by}
-use Rattle.search.specs.declared.figures.Finding.TheVariants as finding
+use Rattle.search.specs.Search.{found_with, search_by}
 use Rattle.search_check.specs.Passing.{passes}
 
 -- "has the sign of τ": the sign bit of the word is set exactly where τ is below zero.
@@ -72,4 +71,4 @@ pub record FoundRight (i : Initial) (tau : Seconds) (psi : Anomaly) : Type 0 whe
   pub same : record { 0 = of_bits binary64 (to_bits binary64 psi.0) } ≡ psi
 
 abbrev pub FindsRight : Type 0
-FindsRight = (pr : Proposal) (i : Initial) (tau : Seconds) (h psi : Anomaly) (n : ℕ) → search_by pr i tau h ≡ finding.Found psi n → FoundRight i tau psi
+FindsRight = (pr : Proposal) (i : Initial) (tau : Seconds) (h psi : Anomaly) (n : ℕ) → search_by pr i tau h ≡ found_with psi n → FoundRight i tau psi
