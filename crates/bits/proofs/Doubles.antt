@@ -25,6 +25,12 @@ no_nan nan h = absurd (true≢false (sym nan_differs ∙ h))
 no_nan (inf s) h = tt
 no_nan (fin s m e) h = tt
 
+pub only_nan : (x : Float) → is_nan x ≡ true → x ≡ nan
+unfolding is_nan
+only_nan nan e = refl
+only_nan (inf s) e = absurd (true≢false (sym e))
+only_nan (fin s m k) e = absurd (true≢false (sym e))
+
 pub finite_no_nan : (x : Float) → finite x ≡ true → T (not (is_nan x))
 unfolding is_nan
 finite_no_nan nan h = absurd (true≢false (sym h))

@@ -1,3 +1,4 @@
+pub mod RefusalLaws
 pub mod Units
 pub mod Digits
 pub mod Leading

@@ -1,6 +1,8 @@
 -- Each public function of layer 1 leaves one answer open.
 use mathlib.Core.Path.{refl, sym, ◌∙◌}
 use Rattle.bits.specs.OneAnswer.{OneAnswer}
+use Rattle.bits.specs.Arithmetic.{n0}
+use Rattle.bits.proofs.RefusalLaws.{one_result}
 use Rattle.bits.proofs.Computed.{answered}
 use Rattle.bits.proofs.words.kind_of.Kinds as kind-of-kinds
 use Rattle.bits.proofs.words.kind_of.Reads as kind-of-reads
@@ -81,7 +83,7 @@ pub root_of-one : OneAnswer 0 root-of-kinds.ps root-of-kinds.r root-of-reads.Pos
 root_of-one κs a x y v w p q =
     let f = answered _ _ _ p in
     let g = answered _ _ _ q in
-    (λ i. record { refusal = (f.0 ∙ sym g.0) i; word = (f.1 ∙ sym g.1) i }, refl)
+    (one_result x y 0 (f.0 ∙ sym g.0) (f.1 ∙ sym g.1), refl)
 
 pub root_of_figure_one : OneAnswer 0 root-of-figure-kinds.ps root-of-figure-kinds.r root-of-figure-reads.Post
-root_of_figure_one κs a x y v w p q = (λ i. record { refusal = (p.0 ∙ sym q.0) i; figure = (p.1 ∙ sym q.1) i }, refl)
+root_of_figure_one κs a x y v w p q = (one_result x y n0 (p.0 ∙ sym q.0) (p.1 ∙ sym q.1), refl)

@@ -1,9 +1,12 @@
 -- Document 01: "Square root: the double nearest to the exact root, as IEEE 754 defines, stated over whole numbers by comparing squares. It is asked for
 -- non-negative finite doubles; any other argument is refused with 9 and zero. The root of either zero is +0."
-use Rattle.std.specs.Prelude.{◌≡◌, ℕ, zero, suc, ◌+◌, ◌-◌, ◌*◌, ◌^◌, ◌≤◌, ◌<◌, cond, ltb, leb, eqb, Float}
+use Rattle.std.specs.Prelude.{◌≡◌, ℕ, zero, suc, ◌+◌, ◌-◌, ◌*◌, ◌^◌, ◌≤◌, ◌<◌, cond, ltb, leb, eqb, Float, Result}
 use Rattle.std.specs.Float.{binary64}
 use Rattle.std.specs.Float.Ieee.{of_bits, to_bits}
+use Rattle.std.specs.Result.{result_unwrap_or}
+use Rattle.bits.specs.declared.refusal.Refusal.{Refusal}
 use Rattle.bits.specs.Choice.{pick}
+use Rattle.bits.specs.Arithmetic.{n0}
 use Rattle.bits.specs.Words.{units, infinity, minus_zero}
 
 -- ---- The nearest double, by comparing squares. All lengths are counted in units of 2 ^ -1074, and doubled, so that the middle between two
@@ -35,6 +38,10 @@ pub record RootAnswer (word refusal root : ℕ) : Type 0 where
   pub above_zero : 0 < word → word < infinity → (refusal ≡ 0) × NearestRoot word root
   pub otherwise : infinity ≤ word → (word ≡ minus_zero → ⊥) → (refusal ≡ 9) × (root ≡ 0)
 
+-- The word of an answer that may be refused: +0 where it is.
+abbrev pub word_in : Result ℕ Refusal → ℕ
+word_in answer = result_unwrap_or answer 0
+
 -- ---- The same answer, computed.
 
 -- Of the words whose digits from the k-th on are set as in w, the last whose middle lies before the root.
@@ -61,3 +68,7 @@ root_refusal x = root_refusal_of (to_bits binary64 x)
 unfoldable pub root_of : Float → Float
 unfolding root_word_of
 root_of x = of_bits binary64 (root_word_of (to_bits binary64 x))
+
+-- The figure of an answer that may be refused: +0 where it is.
+abbrev pub figure_in : Result Float Refusal → Float
+figure_in answer = result_unwrap_or answer n0

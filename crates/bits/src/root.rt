@@ -1,23 +1,11 @@
 // The square root: the double nearest to the exact root, digit by digit over whole numbers.
 ghost use Rattle.std.specs.Prelude.{◌≡◌, ℕ, ◌+◌, ◌-◌, ◌*◌, ◌^◌, ◌≤◌, ◌<◌};
+ghost use Rattle.bits.specs.Refusal.{number_in};
 ghost use Rattle.bits.specs.Words.{units};
-ghost use Rattle.bits.specs.Root.{NearestRoot, RootAnswer, root_refusal, root_of};
+ghost use Rattle.bits.specs.Root.{NearestRoot, RootAnswer, word_in, root_refusal, root_of, figure_in};
 
+use super::refusal::Refusal;
 use super::words::{FIELD, SIGN};
-
-// A word's root: refusal 9 or 0, and the root's word, +0 where it is refused.
-#[derive(Clone, Copy)]
-pub struct Root {
-    pub refusal: u64,
-    pub word: u64,
-}
-
-// The same for a double as a number.
-#[derive(Clone, Copy)]
-pub struct RootFigure {
-    pub refusal: u64,
-    pub figure: f64,
-}
 
 // A number above zero as `digits` times a power of two, with 53 digits.
 #[derive(Clone, Copy)]
@@ -99,65 +87,41 @@ fn packed_root(m: u64, e: u64) -> u64
     (e / 2 + 485) * FIELD + (q + 1) / 2
 }
 
-// A root, given by its word.
-fn rooted(word: u64) -> Root
-    ensures { (result.refusal ≡ 0) × (result.word ≡ word) }
-{
-    Root { refusal: 0, word }
-}
-
-// No root: refusal 9, with +0 for its word.
-fn refused() -> Root
-    ensures { (result.refusal ≡ 9) × (result.word ≡ 0) }
-{
-    Root {
-        refusal: 9,
-        word: 0,
-    }
-}
-
-// The root of the double of a word.
-pub fn root_of(word: u64) -> Root
-    ensures { RootAnswer word result.refusal result.word }
+// The root of the double of a word, as a word.
+pub fn root_of(word: u64) -> Result<u64, Refusal>
+    ensures { RootAnswer word (number_in result) (word_in result) }
 {
     let field = word % SIGN / FIELD;
     let digits = word % FIELD;
     match field {
         0 => {
             if digits == 0 {
-                return rooted(0);
+                return Ok(0);
             }
             if SIGN <= word {
-                return refused();
+                return Err(Refusal::NoRoot);
             }
             let n = normalised(digits);
-            rooted(packed_root(n.digits, n.power))
+            Ok(packed_root(n.digits, n.power))
         }
         1..=2046 => {
             if SIGN <= word {
-                return refused();
+                return Err(Refusal::NoRoot);
             }
-            rooted(packed_root(digits + FIELD, field + 51))
+            Ok(packed_root(digits + FIELD, field + 51))
         }
-        2047.. => refused(),
+        2047.. => Err(Refusal::NoRoot),
     }
 }
 
 // The root of a double as a number.
-pub fn root_of_figure(x: f64) -> RootFigure
-    ensures refusal { result.refusal ≡ root_refusal x }
-    ensures figure { result.figure ≡ root_of x }
+pub fn root_of_figure(x: f64) -> Result<f64, Refusal>
+    ensures refusal { number_in result ≡ root_refusal x }
+    ensures figure { figure_in result ≡ root_of x }
 {
-    if x != x {
-        return RootFigure {
-            refusal: 9,
-            figure: 0.0,
-        };
+    if x.is_nan() {
+        return Err(Refusal::NoRoot);
     }
-    let r = root_of(f64::to_bits(x));
-    let word = r.word;
-    RootFigure {
-        refusal: r.refusal,
-        figure: f64::from_bits(word),
-    }
+    let root = root_of(x.to_bits())?;
+    Ok(f64::from_bits(root))
 }
