@@ -1,51 +1,54 @@
 -- Checks one after another: the first fault stands, and nothing is wrong where each finds nothing.
-use Prim.Native.Nat.{ℕ}
-use native.Mathlib.Omega.{arith}
-use mathlib.Core.Path.{◌≡◌, refl, sym, ap, ◌∙◌}
-use mathlib.Core.Bool.{Bool, true, false}
-use mathlib.Core.Logic.{◌⊎◌, inl, inr}
-use Rattle.files_checks.specs.declared.Check.{Check}
-use Rattle.files_checks.specs.declared.Check.TheVariants.{Sound, Fault}
-use Rattle.files_checks.specs.Checks.{need, ◌⟫◌}
+use Rattle.std.specs.Prelude.{ℕ, ◌≡◌, refl, Bool, true, false, ◌⊎◌, Result, Ok, Err}
+use Rattle.std.proofs.Common.{sym, ap, ◌∙◌, inl, inr}
+use Rattle.bits.specs.declared.refusal.Refusal.{Refusal}
+use Rattle.files_checks.specs.declared.Fault.{Fault}
+use Rattle.files_checks.specs.Checks.{Check, sound, fault, need, ◌⟫◌}
 
-pub fault_is_not_sound : {number place : ℕ} {A : Type 0} → Fault number place ≡ Sound → A
-fault_is_not_sound e = let z : ◌≡◌ {A = ℕ} 0 1 = cc in absurd (omega arith)
+pub fault_is_not_sound : {refusal : Refusal} {place : ℕ} {A : Type 0} → fault refusal place ≡ sound → A
+fault_is_not_sound e = cc
 
 -- The check r came to what a is: a fault is the answer to both, and where there is none, what follows is.
-pub stops : {r a : Check} (b : Check) (number place : ℕ) → r ≡ a → r ≡ Fault number place → r ≡ (a ⟫ b)
-stops {r} {a} b number place e f = e ∙ by a (sym e ∙ f)
+pub stops : {T : Type 0} {r a : Check} (b : Result T Fault) (f : Fault) → r ≡ a → r ≡ Err f → Err f ≡ (a ⟫ b)
+stops {r} {a} b f e was = by a (sym e ∙ was)
   where
-    by : (a : Check) → a ≡ Fault number place → a ≡ (a ⟫ b)
-    by Sound f = fault_is_not_sound (sym f)
-    by (Fault n p) f = refl
+    by : (a : Check) → a ≡ Err f → Err f ≡ (a ⟫ b)
+    by (Ok done) e = cc
+    by (Err g) e = cc
 
-pub goes_on : {r a x b : Check} → r ≡ a → r ≡ Sound → x ≡ b → x ≡ (a ⟫ b)
+pub goes_on : {T : Type 0} {r a : Check} {x b : Result T Fault} → r ≡ a → r ≡ sound → x ≡ b → x ≡ (a ⟫ b)
 goes_on {r} {a} {x} {b} e s f = f ∙ ap (λ (k : Check). k ⟫ b) (sym s ∙ e)
 
-pub both : (a b : Check) → (a ⟫ b) ≡ Sound → (a ≡ Sound) × (b ≡ Sound)
-both Sound b e = (refl, e)
-both (Fault number place) b e = fault_is_not_sound e
+pub both : (a b : Check) → (a ⟫ b) ≡ sound → (a ≡ sound) × (b ≡ sound)
+both (Ok done) b e = (refl, e)
+both (Err f) b e = cc
 
-pub sound_both : (a b : Check) → a ≡ Sound → b ≡ Sound → (a ⟫ b) ≡ Sound
+pub sound_both : (a b : Check) → a ≡ sound → b ≡ sound → (a ⟫ b) ≡ sound
 sound_both a b p q = ap (λ (k : Check). k ⟫ b) p ∙ q
 
-pub sound_need : (holds : Bool) (number place : ℕ) → holds ≡ true → need holds number place ≡ Sound
-sound_need holds number place e = ap (λ (b : Bool). need b number place) e
+pub sound_need : (holds : Bool) (refusal : Refusal) (place : ℕ) → holds ≡ true → need holds refusal place ≡ sound
+sound_need holds refusal place e = ap (λ (b : Bool). need b refusal place) e
 
-pub needed : (holds : Bool) (number place : ℕ) → need holds number place ≡ Sound → holds ≡ true
-needed true number place e = refl
-needed false number place e = fault_is_not_sound e
+pub needed : (holds : Bool) (refusal : Refusal) (place : ℕ) → need holds refusal place ≡ sound → holds ≡ true
+needed true refusal place e = refl
+needed false refusal place e = fault_is_not_sound e
 
 -- Three checks, the last two together or the first two.
-pub in_a_row : (a b c : Check) → ((a ⟫ b) ⟫ c) ≡ (a ⟫ (b ⟫ c))
-in_a_row Sound b c = refl
-in_a_row (Fault number place) b c = refl
+pub in_a_row : {T : Type 0} (a b : Check) (c : Result T Fault) → ((a ⟫ b) ⟫ c) ≡ (a ⟫ (b ⟫ c))
+in_a_row (Ok done) b c = refl
+in_a_row (Err f) b c = refl
 
 -- ---- Where a fault comes from: the first check, or the next where the first finds nothing; a need that does not hold.
-pub first_fault_lem : (a b : Check) {number place : ℕ} → (a ⟫ b) ≡ Fault number place → (a ≡ Fault number place) ⊎ ((a ≡ Sound) × (b ≡ Fault number place))
-first_fault_lem Sound b e = inr (refl, e)
-first_fault_lem (Fault n p) b e = inl e
+pub first_fault_lem : (a b : Check) {f : Fault} → (a ⟫ b) ≡ Err f → (a ≡ Err f) ⊎ ((a ≡ sound) × (b ≡ Err f))
+first_fault_lem (Ok done) b e = inr (refl, e)
+first_fault_lem (Err g) b e = inl e
 
-pub needed_not : (holds : Bool) (n p : ℕ) {number place : ℕ} → need holds n p ≡ Fault number place → (holds ≡ false) × (number ≡ n) × (place ≡ p)
-needed_not true n p e = fault_is_not_sound (sym e)
-needed_not false n p e = (refl, cc, cc)
+pub same_fault : {T : Type 0} {r s : Refusal} {p q : ℕ} → fault {T = T} r p ≡ fault s q → (r ≡ s) × (p ≡ q)
+same_fault {r} {s} {p} {q} e =
+    let f : ◌≡◌ {A = Fault} (record { refusal = r; place = p }) (record { refusal = s; place = q }) = cc e in
+    (ap (λ (x : Fault). x.refusal) f, ap (λ (x : Fault). x.place) f)
+
+pub needed_not : (holds : Bool) (r : Refusal) (p : ℕ) {refusal : Refusal} {place : ℕ} → need holds r p ≡ fault refusal place →
+    (holds ≡ false) × (refusal ≡ r) × (place ≡ p)
+needed_not true r p e = cc
+needed_not false r p e = let same = same_fault (sym e) in (refl, same.0, same.1)

@@ -3,8 +3,6 @@ use mathlib.Core.Path.{refl, sym, ◌∙◌}
 use Rattle.bits.specs.OneAnswer.{OneAnswer}
 use Rattle.files_checks.proofs.need.Kinds as need-kinds
 use Rattle.files_checks.proofs.need.Reads as need-reads
-use Rattle.files_checks.proofs.first.Kinds as first-kinds
-use Rattle.files_checks.proofs.first.Reads as first_reads
 use Rattle.files_checks.proofs.check_edition.Kinds as check-edition-kinds
 use Rattle.files_checks.proofs.check_edition.Reads as check-edition-reads
 use Rattle.files_checks.proofs.check_count.Kinds as check-count-kinds
@@ -16,9 +14,6 @@ use Rattle.files_checks.proofs.check_filled.Reads as check-filled-reads
 
 pub need_one : OneAnswer 0 need-kinds.ps need-kinds.r need-reads.Post
 need_one κs a x y v w p q = (p ∙ sym q, refl)
-
-pub first_one : OneAnswer 0 first-kinds.ps first-kinds.r first_reads.Post
-first_one κs a x y v w p q = (p ∙ sym q, refl)
 
 pub check_edition_one : OneAnswer 1 check-edition-kinds.ps check-edition-kinds.r check-edition-reads.Post
 check_edition_one κs a x y v w p q = (p ∙ sym q, refl)

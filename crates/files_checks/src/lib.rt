@@ -2,97 +2,77 @@
 #![tactic(auto)]
 
 ghost use Rattle.std.specs.Prelude.{◌≡◌, ◌+◌, ◌*◌, ◌^◌, ◌<◌, ◌≤◌, length};
-ghost use Rattle.files_checks.specs.Checks.{
-  need,
-  ◌⟫◌,
-  count_check,
-  edition_check,
-  filled_check,
-  words_there,
-  rest_check,
-};
+ghost use Rattle.files_checks.specs.Checks.{need, count_check, edition_check, filled_check, words_there, rest_check};
 
+use bits::Refusal;
 use files_words::{is_whole, word_at};
 
-// What a check finds: nothing wrong, or a refusal's number with its place.
-#[derive(Clone, Copy)]
-pub enum Check {
-    Sound,
-    Fault { number: u64, place: usize },
+// What is wrong with a file, and at which byte. A check is Ok where it finds nothing wrong.
+#[derive(Clone, Copy, Debug, PartialEq, Eq)]
+pub struct Fault {
+    pub refusal: Refusal,
+    pub place: usize,
 }
 
 // Nothing wrong where a test holds, else this fault.
-pub fn need(holds: bool, number: u64, place: usize) -> Check
-    ensures { result ≡ need holds number place }
+pub fn need(holds: bool, refusal: Refusal, place: usize) -> Result<(), Fault>
+    ensures { result ≡ need holds refusal place }
 {
     if holds {
-        return Check::Sound;
+        return Ok(());
     }
-    Check::Fault { number, place }
-}
-
-// The first fault of two checks.
-pub fn first(one: Check, two: Check) -> Check
-    ensures { result ≡ (one ⟫ two) }
-{
-    match one {
-        Check::Sound => two,
-        Check::Fault { number, place } => Check::Fault { number, place },
-    }
+    Err(Fault { refusal, place })
 }
 
 // A file's first word is whole, and it is a known edition.
-pub fn check_edition(file: &[u8], known: bool) -> Check
+#[tactic(auto, unfolding(crate::specs::Checks::edition_check))]
+pub fn check_edition(file: &[u8], known: bool) -> Result<(), Fault>
     ensures { result ≡ edition_check file.now known }
 {
-    first(need(is_whole(file, 0), 21, 0), need(known, 22, 0))
+    need(is_whole(file, 0), Refusal::WordMissing, 0)?;
+    need(known, Refusal::UnknownEdition, 0)
 }
 
 // A count, within its limit.
-pub fn check_count(file: &[u8], place: usize, limit: u16) -> Check
+#[tactic(auto, unfolding(crate::specs::Checks::count_check))]
+pub fn check_count(file: &[u8], place: usize, limit: u16) -> Result<(), Fault>
     ensures { result ≡ count_check file.now place limit }
 {
-    first(
-        need(is_whole(file, place), 21, place),
-        need(word_at(file, place) <= limit as u64, 23, place),
-    )
+    need(is_whole(file, place), Refusal::WordMissing, place)?;
+    let count = word_at(file, place);
+    need(count <= limit as u64, Refusal::TooMany, place)
 }
 
 // How many of so many words are there from a place on.
 pub fn words_there(file: &[u8], place: usize, words: usize) -> usize
     ensures { result ≡ words_there file.now place words }
 {
-    if file.len() < place {
-        return 0;
-    }
-    let whole = (file.len() - place) / 8;
-    if whole < words { whole } else { words }
+    let whole = file.len().saturating_sub(place) / 8;
+    whole.min(words)
 }
 
 // So many words from a place on, of which nothing is asked, and nothing behind them: the file's length tells.
-fn check_rest(file: &[u8], place: usize, words: usize) -> Check
+fn check_rest(file: &[u8], place: usize, words: usize) -> Result<(), Fault>
     requires { (place ≤ length file.now) × (words ≤ 2 ^ 32) }
     ensures { result ≡ rest_check file.now place words }
 {
     let there = words_there(file, place, words);
     if there < words {
-        return Check::Fault {
-            number: 21,
+        return Err(Fault {
+            refusal: Refusal::WordMissing,
             place: place + 8 * there,
-        };
+        });
     }
     let end = place + 8 * words;
-    need(file.len() <= end, 25, end)
+    need(file.len() <= end, Refusal::BytesLeft, end)
 }
 
 // A count within its limit, that many records of `width` words, of which nothing is asked, and nothing behind them.
-pub fn check_filled(file: &[u8], place: usize, limit: u16, width: u16) -> Check
+#[tactic(auto, using(crate::proofs::CountedLaws::filled_is))]
+pub fn check_filled(file: &[u8], place: usize, limit: u16, width: u16) -> Result<(), Fault>
     ensures { result ≡ filled_check file.now place limit width }
 {
-    let count = check_count(file, place, limit);
-    let Check::Sound = count else {
-        return count;
-    };
+    check_count(file, place, limit)?;
     let words = word_at(file, place) as usize * width as usize;
     check_rest(file, place + 8, words)
 }

@@ -3,18 +3,17 @@ use Prim.Native.Nat.{ℕ, ◌+◌, ◌*◌, ◌<◌, ◌≤◌}
 use mathlib.Core.List.{List}
 use mathlib.Core.Path.{◌≡◌, sym, ap, ◌∙◌}
 use Rattle.files_words.specs.Bytes.{words_from}
-use Rattle.files_checks.specs.declared.Check.{Check}
-use Rattle.files_checks.specs.declared.Check.TheVariants.{Fault}
-use Rattle.files_checks.specs.Checks.{◌⟫◌, end_check, words_there, rest_check}
+use Rattle.bits.specs.declared.refusal.Refusal.TheVariants.{WordMissing}
+use Rattle.files_checks.specs.Checks.{Check, fault, ◌⟫◌, end_check, words_there, rest_check}
 use Rattle.files_checks.proofs.WalkLaws.{walk_any, walk_any_short}
 use Rattle.files_checks.proofs.CountedLaws.{not_all, all_there}
 use Rattle.files_checks.proofs.check_rest.Goals as goal
 
 module _ (file : List ℕ) (place count : ℕ) {there : ℕ} (e : there ≡ words_there file place count) where
-  pub missing : there < count → Fault 21 (place + 8 * there) ≡ rest_check file place count
+  pub missing : there < count → fault WordMissing (place + 8 * there) ≡ rest_check file place count
   missing h =
       let short = not_all _ count there e h in
-      ap (λ (n : ℕ). Fault 21 (place + 8 * n)) short.0
+      ap (λ (n : ℕ). fault WordMissing (place + 8 * n)) short.0
       ∙ sym (ap (λ (k : Check). k ⟫ end_check file (place + 8 * count)) (walk_any_short place count (words_from file place) short.1))
 
   pub none_missing : count ≤ there → {r : Check} → r ≡ end_check file (place + 8 * count) → r ≡ rest_check file place count
