@@ -1,5 +1,5 @@
 -- What the code finds is the floor, over plain numbers: first of a fraction a/c, then of a double.
-use Rattle.std.proofs.Common.{◌≡◌, ℕ, zero, suc, ◌+◌, ◌-◌, ◌*◌, ◌/◌, ◌^◌, ◌<◌, ◌≤◌, Bool, true, false, cond, ◌&&◌, ◌||◌, T, eqb, ltb, ℤ, pos, negsuc, neg_ℤ, nat_abs, sym, refl, ap, ◌∙◌, subst, true≢false, mul-le-mul_right, div-lt_iff_lt-mul, lt_of_mul-lt-mul_right, mul-lt-mul_of_pos_right, le-div_iff_mul-le, div-mul-le_self, arith, le→leb, lt→ltb, ltb-false, ltb-true, le-ltb, lt-ltb, eq-eqb, ne_eqb, le-leb}
+use Rattle.std.proofs.Common.{◌≡◌, ℕ, zero, suc, ◌+◌, ◌-◌, ◌*◌, ◌/◌, ◌^◌, ◌<◌, ◌≤◌, Bool, true, false, cond, ◌&&◌, ◌||◌, T, Some, None, eqb, ltb, ℤ, pos, negsuc, neg_ℤ, nat_abs, sym, refl, ap, ◌∙◌, subst, true≢false, mul-le-mul_right, div-lt_iff_lt-mul, lt_of_mul-lt-mul_right, mul-lt-mul_of_pos_right, le-div_iff_mul-le, div-mul-le_self, arith, le→leb, lt→ltb, ltb-false, ltb-true, le-ltb, lt-ltb, eq-eqb, ne_eqb, le-leb}
 use native.Mathlib.Nat.{lt-div-mul-add, div-eq_of_lt-le, div-eq_of_lt}
 use native.Mathlib.Decide.{dec_le, dec_lt}
 use borrow.Author.Tests.{lt-leb}
@@ -9,7 +9,6 @@ use lib.Ieee.Back.{round_whole}
 use lib.Ieee.Fits.{down_pos, round_is}
 use Rattle.bits.specs.Arithmetic.{n0}
 use Rattle.states_revolutions.specs.Floor.{within, floor_of}
-use Rattle.states_revolutions.specs.declared.figures.Floor.TheVariants.{Whole, Beyond}
 
 -- ---- Of a fraction.
 module _ (a c : ℕ) (p : 0 < c) where
@@ -62,10 +61,10 @@ unfolding of_int
 minus_whole k = let s : k + 1 ≡ suc k = omega arith in neg_round (k + 1) ∙ ap (λ (n : ℕ). round binary64 true n 1) s
 
 -- A whole number within reach is its own floor's figure; one that is not has none.
-in_reach : (n : ℤ) → nat_abs n ≤ 2 ^ 40 → Whole (of_int binary64 n) ≡ within n
+in_reach : (n : ℤ) → nat_abs n ≤ 2 ^ 40 → Some (of_int binary64 n) ≡ within n
 in_reach n h = rw (le-leb (nat_abs n) (2 ^ 40) h)
 
-out_of_reach : (n : ℤ) → 2 ^ 40 < nat_abs n → Beyond ≡ within n
+out_of_reach : (n : ℤ) → 2 ^ 40 < nat_abs n → None ≡ within n
 out_of_reach n h = rw (lt-leb (nat_abs n) (2 ^ 40) h)
 
 -- 2^40 as the code has it, and the next whole number.
@@ -81,11 +80,11 @@ module _ (m : ℕ) (e : ℤ) where
   unfolding to_unsigned
   cut_short h = let q = quotient_below (m * up e) (down e) (down_pos e) 1099511627777 h in omega arith
 
-  floor_plus : m * up e < 1099511627777 * down e → Whole (of_int binary64 (pos (m * up e / down e))) ≡ floor_of (fin false m e)
+  floor_plus : m * up e < 1099511627777 * down e → Some (of_int binary64 (pos (m * up e / down e))) ≡ floor_of (fin false m e)
   unfolding floor_of
   floor_plus h = let q = quotient_below (m * up e) (down e) (down_pos e) 1099511627777 h in in_reach (pos (m * up e / down e)) (omega arith)
 
-  plus_beyond : 1099511627777 * down e ≤ m * up e → Beyond ≡ floor_of (fin false m e)
+  plus_beyond : 1099511627777 * down e ≤ m * up e → None ≡ floor_of (fin false m e)
   unfolding floor_of
   plus_beyond h = out_of_reach (pos (m * up e / down e)) ((le-div_iff_mul-le (down_pos e)).1 h)
 
@@ -94,10 +93,10 @@ pub record FromZero (x : Float) : Type 0 where
   pub above : T (lt (fin true 1 (pos 0)) x)
   pub under : T (lt x (fin false 1 (pos 64)))
   pub small : to_unsigned 64 x ≤ 2 ^ 40
-  pub answer : Whole (of_int binary64 (pos (to_unsigned 64 x))) ≡ floor_of x
+  pub answer : Some (of_int binary64 (pos (to_unsigned 64 x))) ≡ floor_of x
 
 -- A zero with a minus is cut to 0, which is its floor.
-minus_nothing : (m : ℕ) (e : ℤ) → m * up e ≡ 0 → Whole (of_int binary64 (pos 0)) ≡ floor_of (fin true m e)
+minus_nothing : (m : ℕ) (e : ℤ) → m * up e ≡ 0 → Some (of_int binary64 (pos 0)) ≡ floor_of (fin true m e)
 unfolding floor_of
 minus_nothing m e z =
     let q : (m * up e + (down e - 1)) / down e ≡ 0 = div-eq_of_lt (let p = down_pos e in omega arith) in
@@ -126,10 +125,10 @@ from_zero (fin false m e) h g =
       above = lt→ltb 0 (1 * down e + m * up e * 1) (omega arith);
       under = lt→ltb (m * up e * 1) (18446744073709551616 * down e) (omega arith);
       small = omega arith;
-      answer = ap (λ (n : ℕ). Whole (of_int binary64 (pos n))) k ∙ floor_plus m e (omega arith);
+      answer = ap (λ (n : ℕ). Some (of_int binary64 (pos n))) k ∙ floor_plus m e (omega arith);
     }
 
-pub from_zero_beyond : (x : Float) → lt x n0 ≡ false → lt x beyond ≡ false → Beyond ≡ floor_of x
+pub from_zero_beyond : (x : Float) → lt x n0 ≡ false → lt x beyond ≡ false → None ≡ floor_of x
 unfolding lt of_bits floor_of
 from_zero_beyond nan h g = refl
 from_zero_beyond (inf s) h g = refl
@@ -165,19 +164,19 @@ whole_below k m e h = go (round binary64 false k 1) (round_whole binary64 false 
         ∙ ltb_scaled (k * down e) (m * up e) (down d) (down_pos d)
 
 module _ (m : ℕ) (e : ℤ) where
-  rounded_up : (k : ℕ) → (m * up e + (down e - 1)) / down e ≡ k + 1 → k + 1 ≤ 2 ^ 40 → Whole (neg (of_int binary64 (pos (k + 1)))) ≡ floor_of (fin true m e)
+  rounded_up : (k : ℕ) → (m * up e + (down e - 1)) / down e ≡ k + 1 → k + 1 ≤ 2 ^ 40 → Some (neg (of_int binary64 (pos (k + 1)))) ≡ floor_of (fin true m e)
   unfolding floor_of
   rounded_up k q h =
       let s : k + 1 ≡ suc k = omega arith in
-      ap Whole (minus_whole k) ∙ in_reach (negsuc k) (omega arith) ∙ ap (λ (n : ℕ). within (neg_ℤ (pos n))) (sym (q ∙ s))
+      ap Some (minus_whole k) ∙ in_reach (negsuc k) (omega arith) ∙ ap (λ (n : ℕ). within (neg_ℤ (pos n))) (sym (q ∙ s))
 
-  minus_beyond : 1099511627776 * down e < m * up e → Beyond ≡ floor_of (fin true m e)
+  minus_beyond : 1099511627776 * down e < m * up e → None ≡ floor_of (fin true m e)
   unfolding floor_of
   minus_beyond h =
       let p = down_pos e in
       go ((m * up e + (down e - 1)) / down e) ((le-div_iff_mul-le p).1 (omega arith))
     where
-      go : (k : ℕ) → 1099511627777 ≤ k → Beyond ≡ within (neg_ℤ (pos k))
+      go : (k : ℕ) → 1099511627777 ≤ k → None ≡ within (neg_ℤ (pos k))
       go zero q = absurd (omega arith)
       go (suc k) q = out_of_reach (negsuc k) q
 
@@ -189,25 +188,25 @@ module _ (m : ℕ) (e : ℤ) where
     exactly : part ≤ 2 ^ 53
     exactly = let p = down_pos e in let q = quotient_below (m * up e) (down e) p 1099511627777 (omega arith) in omega arith
 
-    pub by_more : lt (of_int binary64 (pos part)) (fin false m e) ≡ true → Whole (neg (of_int binary64 (pos (part + 1)))) ≡ floor_of (fin true m e)
+    pub by_more : lt (of_int binary64 (pos part)) (fin false m e) ≡ true → Some (neg (of_int binary64 (pos (part + 1)))) ≡ floor_of (fin true m e)
     by_more t =
         let l = ltb-true (part * down e) (m * up e) (sym (whole_below part m e exactly) ∙ t) in
         let under : part < 1099511627776 = lt_of_mul-lt-mul_right (down e) (omega arith) in
         rounded_up part (one_more (m * up e) (down e) (down_pos e) l) (omega arith)
 
-    pub by_same : 0 < m * up e → lt (of_int binary64 (pos part)) (fin false m e) ≡ false → Whole (neg (of_int binary64 (pos part))) ≡ floor_of (fin true m e)
+    pub by_same : 0 < m * up e → lt (of_int binary64 (pos part)) (fin false m e) ≡ false → Some (neg (of_int binary64 (pos part))) ≡ floor_of (fin true m e)
     by_same z t = go part refl
       where
         l : m * up e ≤ part * down e
         l = ltb-false (part * down e) (m * up e) (sym (whole_below part m e exactly) ∙ t)
 
-        go : (k : ℕ) → part ≡ k → Whole (neg (of_int binary64 (pos k))) ≡ floor_of (fin true m e)
+        go : (k : ℕ) → part ≡ k → Some (neg (of_int binary64 (pos k))) ≡ floor_of (fin true m e)
         go zero q = absurd (let w : m * up e ≤ 0 * down e = subst (λ (x : ℕ). m * up e ≤ x * down e) q l in omega arith)
         go (suc k) q =
             let s : k + 1 ≡ suc k = omega arith in
             let p = down_pos e in
             let u = quotient_below (m * up e) (down e) p 1099511627777 (omega arith) in
-            subst (λ (x : ℕ). Whole (neg (of_int binary64 (pos x))) ≡ floor_of (fin true m e)) s
+            subst (λ (x : ℕ). Some (neg (of_int binary64 (pos x))) ≡ floor_of (fin true m e)) s
             (rounded_up k (no_more (m * up e) (down e) (down_pos e) l ∙ q ∙ sym s) (omega arith))
 
 -- What the code owes and answers below zero, where k is the size without its fraction.
@@ -215,8 +214,8 @@ pub record BelowZero (x : Float) (k : ℕ) : Type 0 where
   pub above : T (lt (fin true 1 (pos 0)) (neg x))
   pub under : T (lt (neg x) (fin false 1 (pos 64)))
   pub small : k ≤ 2 ^ 40
-  pub more : lt (of_int binary64 (pos k)) (neg x) ≡ true → Whole (neg (of_int binary64 (pos (k + 1)))) ≡ floor_of x
-  pub same : lt (of_int binary64 (pos k)) (neg x) ≡ false → Whole (neg (of_int binary64 (pos k))) ≡ floor_of x
+  pub more : lt (of_int binary64 (pos k)) (neg x) ≡ true → Some (neg (of_int binary64 (pos (k + 1)))) ≡ floor_of x
+  pub same : lt (of_int binary64 (pos k)) (neg x) ≡ false → Some (neg (of_int binary64 (pos k))) ≡ floor_of x
 
 -- `le` of two doubles that are not below zero, over their products.
 at_most : (a b : ℕ) → ltb a b || (eqb a b && true) ≡ true → a ≤ b
@@ -256,11 +255,11 @@ below_zero (fin true m e) h g =
       above = lt→ltb 0 (1 * c + a * 1) (omega arith);
       under = lt→ltb (a * 1) (18446744073709551616 * c) (omega arith);
       small = omega arith;
-      more = subst (λ (n : ℕ). lt (of_int binary64 (pos n)) (fin false m e) ≡ true → Whole (neg (of_int binary64 (pos (n + 1)))) ≡ floor_of (fin true m e)) (sym k) (by_more m e (omega arith));
-      same = subst (λ (n : ℕ). lt (of_int binary64 (pos n)) (fin false m e) ≡ false → Whole (neg (of_int binary64 (pos n))) ≡ floor_of (fin true m e)) (sym k) (by_same m e (omega arith) (omega arith));
+      more = subst (λ (n : ℕ). lt (of_int binary64 (pos n)) (fin false m e) ≡ true → Some (neg (of_int binary64 (pos (n + 1)))) ≡ floor_of (fin true m e)) (sym k) (by_more m e (omega arith));
+      same = subst (λ (n : ℕ). lt (of_int binary64 (pos n)) (fin false m e) ≡ false → Some (neg (of_int binary64 (pos n))) ≡ floor_of (fin true m e)) (sym k) (by_same m e (omega arith) (omega arith));
     }
 
-pub below_zero_beyond : (x : Float) → lt x n0 ≡ true → le (neg x) limit ≡ false → Beyond ≡ floor_of x
+pub below_zero_beyond : (x : Float) → lt x n0 ≡ true → le (neg x) limit ≡ false → None ≡ floor_of x
 unfolding lt le eq neg of_bits floor_of
 below_zero_beyond nan h g = refl
 below_zero_beyond (inf s) h g = refl

@@ -1,7 +1,7 @@
 -- Document 02, T-04: "For α < 0 and μ > 0, with π the nearest double (400921FB54442D18 hex), the period is P = ((2·π)·μ)/((−α)·root(−α)), n is the
 -- floor of the rounded sum τ/P+1/2, and the search and f, g use τ − n·P, each step rounded. This is done only when P is finite and above zero and n is
 -- within ±2^40 and not 0; else 01 stands."
-use Rattle.std.specs.Prelude.{Bool, ◌&&◌, from_bits, Float}
+use Rattle.std.specs.Prelude.{Bool, ◌&&◌, from_bits, Float, Option, Some, None}
 use Rattle.std.specs.Float.{binary64}
 use Rattle.std.specs.Float.Ieee.{neg, lt, eq}
 use Rattle.bits.specs.Choice.{pick}
@@ -12,11 +12,6 @@ use Rattle.states_revolutions.specs.Floor.{floor_of}
 use Rattle.states_revolutions.specs.declared.figures.WholeInterval.{WholeInterval}
 use Rattle.states_revolutions.specs.declared.figures.Revolution.{Revolution}
 use Rattle.states_revolutions.specs.declared.figures.Interval.{Interval}
-use Rattle.states_revolutions.specs.declared.figures.Course.{Course}
-use Rattle.states_revolutions.specs.declared.figures.Course.TheVariants as course
-use Rattle.states_revolutions.specs.declared.figures.Floor.{Floor}
-use Rattle.states_revolutions.specs.declared.figures.Floor.TheVariants as floor
-use Rattle.states_revolutions.specs.declared.figures.Off.TheVariants as off
 
 -- "π the nearest double (400921FB54442D18 hex)"
 abbrev pub pi : Float
@@ -36,13 +31,13 @@ is_closed i = lt i.alpha n0 && lt n0 i.mu
 unfoldable pub is_usable : Revolution → Bool
 is_usable v = is_finite v.period.0 && lt n0 v.period.0
 
--- It belongs to the state, not to an interval.
-unfoldable pub course_of : Initial → Course
-course_of i = pick (is_closed i) (pick (is_usable (revolution_of i)) (course.Closed (revolution_of i)) course.Open) course.Open
+-- What revolution can come off the intervals of an orbit. It belongs to the state, not to an interval.
+unfoldable pub course_of : Initial → Option Revolution
+course_of i = pick (is_closed i) (pick (is_usable (revolution_of i)) (Some (revolution_of i)) None) None
 
 -- "else 01 stands": all of the interval is searched.
 unfoldable pub as_it_is : WholeInterval → Interval
-as_it_is whole = record { whole = whole; searched = record { 0 = whole.0 }; off = off.Nothing }
+as_it_is whole = record { whole = whole; searched = record { 0 = whole.0 }; off = None }
 
 -- "the search and f, g use τ − n·P"; the revolutions that come off have the anomaly n·Q. "and not 0"
 unfoldable pub without_n : (n : Float) → Revolution → WholeInterval → Interval
@@ -51,18 +46,18 @@ without_n n v whole =
     (record {
       whole = whole;
       searched = record { 0 = whole.0 ⊖ n ⊗ v.period.0 };
-      off = off.Revolutions (record { 0 = n ⊗ v.anomaly.0 });
+      off = Some (record { 0 = n ⊗ v.anomaly.0 });
     })
 
 -- "n is within ±2^40"
-abbrev pub without_floor : Floor → Revolution → WholeInterval → Interval
-without_floor (floor.Whole n) v whole = without_n n v whole
-without_floor floor.Beyond v whole = as_it_is whole
+abbrev pub without_floor : Option Float → Revolution → WholeInterval → Interval
+without_floor (Some n) v whole = without_n n v whole
+without_floor None v whole = as_it_is whole
 
 -- "n is the floor of the rounded sum τ/P+1/2"
 unfoldable pub without_revolutions : Revolution → WholeInterval → Interval
 without_revolutions v whole = without_floor (floor_of (whole.0 ⊘ v.period.0 ⊕ half)) v whole
 
-unfoldable pub interval_of : Course → WholeInterval → Interval
-interval_of (course.Closed v) whole = without_revolutions v whole
-interval_of course.Open whole = as_it_is whole
+unfoldable pub interval_of : Option Revolution → WholeInterval → Interval
+interval_of (Some v) whole = without_revolutions v whole
+interval_of None whole = as_it_is whole

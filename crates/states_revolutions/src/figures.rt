@@ -12,31 +12,10 @@ pub struct Revolution {
     pub anomaly: Anomaly,
 }
 
-// Whether whole revolutions can come off the intervals of an orbit: only where it closes and its period can be used.
-#[derive(Clone, Copy)]
-pub enum Course {
-    Closed(Revolution),
-    Open,
-}
-
-// The floor of a double: a whole number within ±2^40, as a double; or it is beyond them.
-#[derive(Clone, Copy)]
-pub enum Floor {
-    Whole(f64),
-    Beyond,
-}
-
-// What came off an interval: whole revolutions, n of them, whose anomaly is n·Q; or nothing.
-#[derive(Clone, Copy)]
-pub enum Off {
-    Revolutions(Anomaly),
-    Nothing,
-}
-
-// An interval: the whole of it, the part that is searched, and what came off.
+// An interval: the whole of it, the part that is searched, and what came off: the anomaly n·Q of n whole revolutions, or nothing.
 #[derive(Clone, Copy)]
 pub struct Interval {
     pub whole: WholeInterval,
     pub searched: Seconds,
-    pub off: Off,
+    pub off: Option<Anomaly>,
 }

@@ -5,6 +5,6 @@ pub mod figures;
 mod floor;
 mod revolutions;
 
-pub use figures::{Course, Floor, Interval, Off, Revolution, WholeInterval};
+pub use figures::{Interval, Revolution, WholeInterval};
 pub use floor::floor_of;
 pub use revolutions::{course_of, interval_of};

@@ -2,7 +2,7 @@
 ghost use Rattle.std.specs.Prelude.{◌≡◌};
 ghost use Rattle.states_revolutions.specs.Revolutions.{revolution_of, is_closed, is_usable, course_of, as_it_is, without_n, without_revolutions, interval_of};
 
-use super::figures::{Course, Floor, Interval, Off, Revolution, WholeInterval};
+use super::figures::{Interval, Revolution, WholeInterval};
 use super::floor::floor_of;
 use search_points::Initial;
 use series::{Anomaly, Seconds};
@@ -36,18 +36,18 @@ fn is_usable(revolution: Revolution) -> bool
     bits::words::is_finite(revolution.period.0) && revolution.period.0 > 0.0
 }
 
-// The course of an orbit. It belongs to the state, not to an interval: many can share it.
-pub fn course_of(initial: Initial) -> Course
+// The course of an orbit: its revolution, where it closes and the period can be used. Else no revolution comes off an interval. It belongs to the state, not to an interval: many can share it.
+pub fn course_of(initial: Initial) -> Option<Revolution>
     ensures { result ≡ course_of initial }
 {
     if !closes(initial) {
-        return Course::Open;
+        return None;
     }
     let revolution = revolution_of(initial);
     if !is_usable(revolution) {
-        return Course::Open;
+        return None;
     }
-    Course::Closed(revolution)
+    Some(revolution)
 }
 
 // An interval that nothing comes off: all of it is searched.
@@ -57,7 +57,7 @@ fn as_it_is(whole: WholeInterval) -> Interval
     Interval {
         whole,
         searched: Seconds(whole.0),
-        off: Off::Nothing,
+        off: None,
     }
 }
 
@@ -71,7 +71,7 @@ fn without_n(n: f64, revolution: Revolution, whole: WholeInterval) -> Interval
     Interval {
         whole,
         searched: Seconds(whole.0 - n * revolution.period.0),
-        off: Off::Revolutions(Anomaly(n * revolution.anomaly.0)),
+        off: Some(Anomaly(n * revolution.anomaly.0)),
     }
 }
 
@@ -80,17 +80,17 @@ fn without_revolutions(revolution: Revolution, whole: WholeInterval) -> Interval
     ensures { result ≡ without_revolutions revolution whole }
 {
     match floor_of(whole.0 / revolution.period.0 + 0.5) {
-        Floor::Whole(n) => without_n(n, revolution, whole),
-        Floor::Beyond => as_it_is(whole),
+        Some(n) => without_n(n, revolution, whole),
+        None => as_it_is(whole),
     }
 }
 
 // The interval as it is searched on a course, beside the whole of it.
-pub fn interval_of(course: Course, whole: WholeInterval) -> Interval
+pub fn interval_of(course: Option<Revolution>, whole: WholeInterval) -> Interval
     ensures { result ≡ interval_of course whole }
 {
     match course {
-        Course::Closed(revolution) => without_revolutions(revolution, whole),
-        Course::Open => as_it_is(whole),
+        Some(revolution) => without_revolutions(revolution, whole),
+        None => as_it_is(whole),
     }
 }

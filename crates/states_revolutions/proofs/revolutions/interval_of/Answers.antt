@@ -2,10 +2,10 @@
 use Rattle.states_revolutions.specs.Revolutions.{interval_of}
 use Rattle.states_revolutions.proofs.revolutions.interval_of.Goals as goal
 
-pub returns-in-Closed : goal.returns-in-Closed
+pub returns-in-Some : goal.returns-in-Some
 unfolding interval_of
-returns-in-Closed c = simp c.in-Closed.is c.without_revolutions.ensures
+returns-in-Some c = simp c.in-Some.is c.without_revolutions.ensures
 
-pub returns-in-Open : goal.returns-in-Open
+pub returns-in-None : goal.returns-in-None
 unfolding interval_of
-returns-in-Open c = simp c.in-Open.is c.as_it_is.ensures
+returns-in-None c = simp c.in-None.is c.as_it_is.ensures

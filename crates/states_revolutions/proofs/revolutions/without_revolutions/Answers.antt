@@ -2,10 +2,10 @@
 use Rattle.states_revolutions.specs.Revolutions.{without_revolutions}
 use Rattle.states_revolutions.proofs.revolutions.without_revolutions.Goals as goal
 
-pub returns-in-Whole : goal.returns-in-Whole
+pub returns-in-Some : goal.returns-in-Some
 unfolding without_revolutions
-returns-in-Whole c = simp (← c.floor_of.ensures, c.in-Whole.is) c.without_n.ensures
+returns-in-Some c = simp (← c.floor_of.ensures, c.in-Some.is) c.without_n.ensures
 
-pub returns-in-Beyond : goal.returns-in-Beyond
+pub returns-in-None : goal.returns-in-None
 unfolding without_revolutions
-returns-in-Beyond c = simp (← c.floor_of.ensures, c.in-Beyond.is) c.as_it_is.ensures
+returns-in-None c = simp (← c.floor_of.ensures, c.in-None.is) c.as_it_is.ensures
