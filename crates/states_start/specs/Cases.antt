@@ -1,18 +1,16 @@
 -- Words that are not finite, refusal 4 by one figure alone, and the initial figures of one orbit, evaluated from the definitions; the figures come from an
 -- independent program. Document 01's marked cases are in the table of crate `files_results`.
-use Rattle.std.specs.Prelude.{◌≡◌, refl, List, [], ◌∷◌, ℕ}
+use Rattle.std.specs.Prelude.{◌≡◌, refl, List, [], ◌∷◌, ℕ, Option, Some, Ok, Err}
 use Rattle.std.specs.Float.{binary64}
 use Rattle.std.specs.Float.Ieee.{add, sub, mul, div, neg, lt, eq, of_bits, to_bits}
 use Rattle.bits.specs.Runs.{first_of, has}
 use Rattle.bits.specs.Root.{root_word_of, root_of}
+use Rattle.bits.specs.declared.refusal.Refusal.TheVariants.{StartNotFinite, MuNotFinite, XNotFinite, YNotFinite, ZNotFinite, VxNotFinite, VyNotFinite, VzNotFinite, TauNotFinite}
 use Rattle.search_points.specs.declared.figures.Initial.{Initial}
 use Rattle.states_revolutions.specs.Revolutions.{revolution_of, is_closed, is_usable, course_of}
-use Rattle.states_revolutions.specs.declared.figures.Course.{Course}
-use Rattle.states_revolutions.specs.declared.figures.Course.TheVariants.{Closed}
+use Rattle.states_revolutions.specs.declared.figures.Revolution.{Revolution}
 use Rattle.states_start.specs.Given.{orbit, interval, read_of}
 use Rattle.states_start.specs.Initial.{dot, begun_of, first_step_of}
-use Rattle.states_start.specs.declared.figures.Read.TheVariants as read
-use Rattle.states_start.specs.declared.figures.Begun.TheVariants as begun
 
 -- ---- T-05: 31 to 38, "in the order μ, x, y, z, vx, vy, vz, τ".
 abbrev infinite : ℕ
@@ -24,22 +22,22 @@ nan = 0xfff0000000000001
 
 -- Each of the eight alone.
 alone :
-    (read_of (nan ∷ 0 ∷ 0 ∷ 0 ∷ 0 ∷ 0 ∷ 0 ∷ 0 ∷ []) ≡ read.Refused 31)
-    × (read_of (0 ∷ nan ∷ 0 ∷ 0 ∷ 0 ∷ 0 ∷ 0 ∷ 0 ∷ []) ≡ read.Refused 32)
-    × (read_of (0 ∷ 0 ∷ nan ∷ 0 ∷ 0 ∷ 0 ∷ 0 ∷ 0 ∷ []) ≡ read.Refused 33)
-    × (read_of (0 ∷ 0 ∷ 0 ∷ nan ∷ 0 ∷ 0 ∷ 0 ∷ 0 ∷ []) ≡ read.Refused 34)
-    × (read_of (0 ∷ 0 ∷ 0 ∷ 0 ∷ infinite ∷ 0 ∷ 0 ∷ 0 ∷ []) ≡ read.Refused 35)
-    × (read_of (0 ∷ 0 ∷ 0 ∷ 0 ∷ 0 ∷ infinite ∷ 0 ∷ 0 ∷ []) ≡ read.Refused 36)
-    × (read_of (0 ∷ 0 ∷ 0 ∷ 0 ∷ 0 ∷ 0 ∷ infinite ∷ 0 ∷ []) ≡ read.Refused 37)
-    × (read_of (0 ∷ 0 ∷ 0 ∷ 0 ∷ 0 ∷ 0 ∷ 0 ∷ infinite ∷ []) ≡ read.Refused 38)
+    (read_of (nan ∷ 0 ∷ 0 ∷ 0 ∷ 0 ∷ 0 ∷ 0 ∷ 0 ∷ []) ≡ Err MuNotFinite)
+    × (read_of (0 ∷ nan ∷ 0 ∷ 0 ∷ 0 ∷ 0 ∷ 0 ∷ 0 ∷ []) ≡ Err XNotFinite)
+    × (read_of (0 ∷ 0 ∷ nan ∷ 0 ∷ 0 ∷ 0 ∷ 0 ∷ 0 ∷ []) ≡ Err YNotFinite)
+    × (read_of (0 ∷ 0 ∷ 0 ∷ nan ∷ 0 ∷ 0 ∷ 0 ∷ 0 ∷ []) ≡ Err ZNotFinite)
+    × (read_of (0 ∷ 0 ∷ 0 ∷ 0 ∷ infinite ∷ 0 ∷ 0 ∷ 0 ∷ []) ≡ Err VxNotFinite)
+    × (read_of (0 ∷ 0 ∷ 0 ∷ 0 ∷ 0 ∷ infinite ∷ 0 ∷ 0 ∷ []) ≡ Err VyNotFinite)
+    × (read_of (0 ∷ 0 ∷ 0 ∷ 0 ∷ 0 ∷ 0 ∷ infinite ∷ 0 ∷ []) ≡ Err VzNotFinite)
+    × (read_of (0 ∷ 0 ∷ 0 ∷ 0 ∷ 0 ∷ 0 ∷ 0 ∷ infinite ∷ []) ≡ Err TauNotFinite)
 unfolding first_of has read_of eq of_bits
 alone = (refl, refl, refl, refl, refl, refl, refl, refl)
 
 -- The first of several: of vy and τ, of μ and x, of all eight.
 of_several :
-    (read_of (0 ∷ 0 ∷ 0 ∷ 0 ∷ 0 ∷ infinite ∷ 0 ∷ nan ∷ []) ≡ read.Refused 36)
-    × (read_of (nan ∷ infinite ∷ 0 ∷ 0 ∷ 0 ∷ 0 ∷ 0 ∷ 0 ∷ []) ≡ read.Refused 31)
-    × (read_of (nan ∷ nan ∷ nan ∷ nan ∷ nan ∷ nan ∷ nan ∷ nan ∷ []) ≡ read.Refused 31)
+    (read_of (0 ∷ 0 ∷ 0 ∷ 0 ∷ 0 ∷ infinite ∷ 0 ∷ nan ∷ []) ≡ Err VyNotFinite)
+    × (read_of (nan ∷ infinite ∷ 0 ∷ 0 ∷ 0 ∷ 0 ∷ 0 ∷ 0 ∷ []) ≡ Err MuNotFinite)
+    × (read_of (nan ∷ nan ∷ nan ∷ nan ∷ nan ∷ nan ∷ nan ∷ nan ∷ []) ≡ Err MuNotFinite)
 unfolding first_of has read_of eq of_bits
 of_several = (refl, refl, refl)
 
@@ -51,12 +49,12 @@ sigma0_alone :
     begun_of
     (orbit
     (0 ∷ 0x5fefffffffffffff ∷ 0x5e40000000000000 ∷ 0x5e48000000000000 ∷ 0x5fefffffffffffff ∷ 0x5e48000000000000 ∷ 0x5e3c000000000000 ∷ 0 ∷ []))
-    ≡ begun.Refused 4
+    ≡ Err StartNotFinite
 unfolding first_of has dot begun_of root_word_of root_of add sub mul div eq of_bits to_bits
 sigma0_alone = refl
 
 -- By α: r0 = 1, v² = 9·2^1020, and (2·μ)/r0 is minus that.
-alpha_alone : begun_of (orbit (0xffd2000000000000 ∷ 0x3ff0000000000000 ∷ 0 ∷ 0 ∷ 0 ∷ 0x5fe8000000000000 ∷ 0 ∷ 0 ∷ [])) ≡ begun.Refused 4
+alpha_alone : begun_of (orbit (0xffd2000000000000 ∷ 0x3ff0000000000000 ∷ 0 ∷ 0 ∷ 0 ∷ 0x5fe8000000000000 ∷ 0 ∷ 0 ∷ [])) ≡ Err StartNotFinite
 unfolding first_of has dot begun_of root_word_of root_of add sub mul div eq of_bits to_bits
 alpha_alone = refl
 
@@ -77,12 +75,12 @@ its_initial =
     }
 
 -- Its period and the anomaly that goes by: 18.89 s and 9.07 s/km.
-its_course : Course
-its_course = Closed (record { period = record { 0 = of_bits binary64 0x4032e30370eec1e0 }; anomaly = record { 0 = of_bits binary64 0x402222c151418bc2 } })
+its_course : Option Revolution
+its_course = Some (record { period = record { 0 = of_bits binary64 0x4032e30370eec1e0 }; anomaly = record { 0 = of_bits binary64 0x402222c151418bc2 } })
 
 figures :
-    (read_of an_orbit ≡ read.Orbit (orbit an_orbit) (interval an_orbit))
-    × (begun_of (orbit an_orbit) ≡ begun.Start (record { state = (orbit an_orbit).state; initial = its_initial }) its_course)
+    (read_of an_orbit ≡ Ok (record { orbit = orbit an_orbit; whole = interval an_orbit }))
+    × (begun_of (orbit an_orbit) ≡ Ok (record { start = record { state = (orbit an_orbit).state; initial = its_initial }; course = its_course }))
     × ((first_step_of its_initial (record { 0 = (interval an_orbit).0 })).0 ≡ of_bits binary64 0x3eb4f2ec413cb52b)
 unfolding
     an_orbit its_initial its_course revolution_of is_closed is_usable course_of neg lt first_of has read_of dot begun_of first_step_of root_word_of root_of add

@@ -1,5 +1,5 @@
 -- Document 01, "Initial figures and series (document 003, 3.4)", up to H, with refusals 3 and 4. The orbit and τ may be any doubles.
-use Rattle.std.specs.Prelude.{◌≡◌, refl, List, [], ◌∷◌, ◌^◌, pos, Float}
+use Rattle.std.specs.Prelude.{◌≡◌, refl, List, [], ◌∷◌, ◌^◌, pos, Float, Result, Ok, Err}
 use Rattle.std.specs.Float.{binary64}
 use Rattle.std.specs.Float.Ieee.{div, eq, of_bits, of_int}
 use Rattle.bits.specs.Choice.{pick}
@@ -7,6 +7,8 @@ use Rattle.bits.specs.Arithmetic.{◌⊕◌, ◌⊖◌, ◌⊗◌, ◌⊘◌, n0
 use Rattle.bits.specs.Words.{words_of}
 use Rattle.bits.specs.Runs.{has}
 use Rattle.bits.specs.Root.{root_of}
+use Rattle.bits.specs.declared.refusal.Refusal.{Refusal}
+use Rattle.bits.specs.declared.refusal.Refusal.TheVariants.{AtCentre, StartNotFinite}
 use Rattle.series.specs.declared.figures.Anomaly.{Anomaly}
 use Rattle.series.specs.declared.figures.Seconds.{Seconds}
 use Rattle.search_points.specs.declared.figures.Initial.{Initial}
@@ -16,7 +18,6 @@ use Rattle.states_start.specs.declared.figures.Vector.{Vector}
 use Rattle.states_start.specs.declared.figures.State.{State}
 use Rattle.states_start.specs.declared.figures.Orbit.{Orbit}
 use Rattle.states_start.specs.declared.figures.Begun.{Begun}
-use Rattle.states_start.specs.declared.figures.Begun.TheVariants as begun
 
 -- "(x·x+y·y)+z·z", "σ0 = x·vx+y·vy+z·vz" and "v² = vx·vx+vy·vy+vz·vz" are the same formula: sums "group from the left".
 unfoldable pub dot : Vector → Vector → Float
@@ -24,23 +25,23 @@ dot a b = (a.x ⊗ b.x ⊕ a.y ⊗ b.y) ⊕ a.z ⊗ b.z
 
 -- T-04: the period is the state's, and worked out from its initial figures after refusals 3 and 4.
 abbrev pub start_from : State → Initial → Begun
-start_from s i = begun.Start (record { state = s; initial = i }) (course_of i)
+start_from s i = record { start = record { state = s; initial = i }; course = course_of i }
 
 -- Refusal 4: "that sum, σ0, v², (2·μ)/r0, α or H below isn't finite"; H belongs to the interval, and its refusal is in Call of crate `states`.
 abbrev pub five_figures : (sum sigma0 v2 quotient alpha : Float) → List Float
 five_figures sum sigma0 v2 quotient alpha = sum ∷ sigma0 ∷ v2 ∷ quotient ∷ alpha ∷ []
 
 -- "α = v² − (2·μ)/r0". Refusal 3: "(x·x+y·y)+z·z is zero"; then 4.
-abbrev pub begun_from : Orbit → (sum r0 sigma0 v2 : Float) → Begun
+abbrev pub begun_from : Orbit → (sum r0 sigma0 v2 : Float) → Result Begun Refusal
 begun_from o sum r0 sigma0 v2 =
     let quotient = (n2 ⊗ o.mu) ⊘ r0 in
     let alpha = v2 ⊖ quotient in
-    pick (eq sum n0) (begun.Refused 3)
-    (pick (has NotFinite (words_of (five_figures sum sigma0 v2 quotient alpha))) (begun.Refused 4)
-    (start_from o.state (record { mu = o.mu; r0 = r0; sigma0 = sigma0; alpha = alpha })))
+    pick (eq sum n0) (Err AtCentre)
+    (pick (has NotFinite (words_of (five_figures sum sigma0 v2 quotient alpha))) (Err StartNotFinite)
+    (Ok (start_from o.state (record { mu = o.mu; r0 = r0; sigma0 = sigma0; alpha = alpha }))))
 
 -- "r0 = root of that sum"
-unfoldable pub begun_of : Orbit → Begun
+unfoldable pub begun_of : Orbit → Result Begun Refusal
 begun_of o =
     let position = o.state.position in
     let velocity = o.state.velocity in

@@ -1,6 +1,6 @@
 // What comes in, and what is known of it before the search. Lengths are in km, times in s.
 use search_points::Initial;
-use states_revolutions::{Course, WholeInterval};
+use states_revolutions::{Revolution, WholeInterval};
 
 // A position (km), a velocity (km/s) or an acceleration (km/s^2).
 #[derive(Clone, Copy)]
@@ -24,11 +24,11 @@ pub struct Orbit {
     pub state: State,
 }
 
-// What eight words hold: an orbit and the whole interval; or the number of the refusal, which tells the first that is not finite.
+// What eight words hold: an orbit and the whole interval.
 #[derive(Clone, Copy)]
-pub enum Read {
-    Orbit(Orbit, WholeInterval),
-    Refused(u64),
+pub struct Given {
+    pub orbit: Orbit,
+    pub whole: WholeInterval,
 }
 
 // What every interval of one orbit begins with: its state, and its initial figures, mu among them.
@@ -38,9 +38,9 @@ pub struct Start {
     pub initial: Initial,
 }
 
-// The start of an orbit, and its course, with the period if it has one; or the number of the refusal.
+// The start of an orbit, and its course: the revolution that can come off its intervals, if there is one.
 #[derive(Clone, Copy)]
-pub enum Begun {
-    Start(Start, Course),
-    Refused(u64),
+pub struct Begun {
+    pub start: Start,
+    pub course: Option<Revolution>,
 }

@@ -4,8 +4,8 @@ ghost use Rattle.bits.specs.Runs.{has};
 ghost use Rattle.bits.specs.declared.runs.Sought.TheVariants.{NotFinite};
 ghost use Rattle.states_start.specs.Given.{double_at, vector_at, figure_refusal, read_of};
 
-use super::figures::{Orbit, Read, State, Vector};
-use bits::Sought;
+use super::figures::{Given, Orbit, State, Vector};
+use bits::{Refusal, Sought};
 use states_revolutions::WholeInterval;
 
 // The double of one of eight finite words.
@@ -28,25 +28,39 @@ fn vector_at(words: [u64; 8], k: usize) -> Vector
     }
 }
 
-// The refusal of a figure that is not finite, by its number among the eight, from 0: 31 of mu, 32 to 34 of x, y and z, 35 to 37 of vx, vy and vz, 38 of tau.
-fn figure_refusal(figure: usize) -> u64
+// The refusals of the eight figures, in their order: 31 of mu, 32 to 34 of x, y and z, 35 to 37 of vx, vy and vz, 38 of tau.
+const FIGURES: [Refusal; 8] = [
+    Refusal::MuNotFinite,
+    Refusal::XNotFinite,
+    Refusal::YNotFinite,
+    Refusal::ZNotFinite,
+    Refusal::VxNotFinite,
+    Refusal::VyNotFinite,
+    Refusal::VzNotFinite,
+    Refusal::TauNotFinite,
+];
+
+// The refusal of a figure that is not finite, by its number among the eight, from 0.
+fn figure_refusal(figure: usize) -> Refusal
     requires { figure < 8 }
     ensures { result ≡ figure_refusal figure }
 {
-    31 + figure as u64
+    FIGURES[figure]
 }
 
 // The orbit and the whole interval of eight words, if all are finite; else the refusal of the first that is not.
-pub fn orbit_of(words: [u64; 8]) -> Read
+pub fn orbit_of(words: [u64; 8]) -> Result<Given, Refusal>
     ensures { result ≡ read_of words }
 {
     let first = bits::first_of(&words, Sought::NotFinite);
     if first < 8 {
-        return Read::Refused(figure_refusal(first));
+        return Err(figure_refusal(first));
     }
     let position = vector_at(words, 1);
     let velocity = vector_at(words, 4);
     let state = State { position, velocity };
     let mu = double_at(words, 0);
-    Read::Orbit(Orbit { mu, state }, WholeInterval(double_at(words, 7)))
+    let orbit = Orbit { mu, state };
+    let whole = WholeInterval(double_at(words, 7));
+    Ok(Given { orbit, whole })
 }

@@ -4,8 +4,8 @@ ghost use Rattle.bits.specs.Words.{words_of};
 ghost use Rattle.states_start.specs.Initial.{dot, five_figures, begun_of, first_step_of};
 
 use super::figures::{Begun, Orbit, Start, Vector};
-use bits::Sought;
 use bits::words::{magnitude_of, word_of};
+use bits::{Refusal, Sought};
 use search_points::Initial;
 use series::{Anomaly, Seconds};
 
@@ -34,7 +34,7 @@ fn tested(sum: f64, sigma0: f64, v2: f64, quotient: f64, alpha: f64) -> [u64; 5]
 
 // r0 (km), sigma0 (km^2/s) and alpha (km^2/s^2) of an orbit, beside its mu and its state, and its course; refusal 3, then 4. H
 // belongs to the interval: see `first_step`.
-pub fn start_of(orbit: Orbit) -> Begun
+pub fn start_of(orbit: Orbit) -> Result<Begun, Refusal>
     ensures { result ≡ begun_of orbit }
 {
     let mu = orbit.mu;
@@ -43,7 +43,7 @@ pub fn start_of(orbit: Orbit) -> Begun
     let velocity = state.velocity;
     let sum = product(position, position);
     if sum == 0.0 {
-        return Begun::Refused(3);
+        return Err(Refusal::AtCentre);
     }
     let root = bits::root::root_of_figure(sum);
     let r0 = root.figure;
@@ -53,7 +53,7 @@ pub fn start_of(orbit: Orbit) -> Begun
     let alpha = v2 - quotient;
     let words = tested(sum, sigma0, v2, quotient, alpha);
     if bits::has(&words, Sought::NotFinite) {
-        return Begun::Refused(4);
+        return Err(Refusal::StartNotFinite);
     }
     let initial = Initial {
         mu,
@@ -61,10 +61,9 @@ pub fn start_of(orbit: Orbit) -> Begun
         sigma0,
         alpha,
     };
-    Begun::Start(
-        Start { state, initial },
-        states_revolutions::course_of(initial),
-    )
+    let start = Start { state, initial };
+    let course = states_revolutions::course_of(initial);
+    Ok(Begun { start, course })
 }
 
 // H (s/km), an anomaly, from which the search goes outward. tau is the interval that is searched.

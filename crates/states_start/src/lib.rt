@@ -6,6 +6,6 @@ pub mod figures;
 mod given;
 mod initial;
 
-pub use figures::{Begun, Orbit, Read, Start, State, Vector};
+pub use figures::{Begun, Given, Orbit, Start, State, Vector};
 pub use given::orbit_of;
 pub use initial::{first_step, start_of};

@@ -21,4 +21,4 @@ returns c =
     let v = t.before.before.before.before in
     let r = v.before.before in
     simp (← r.product-sum.ensures, ← r.root_of_figure-root.ensures.figure, ← v.product-sigma0.ensures, ← v.product-v2.ensures)
-    (simp (r.if-sum.false, ← t.tested-words.ensures, ← t.has.ensures, t.if-has.false, ← c.course_of.ensures))
+    (simp (r.if-sum.false, ← t.tested-words.ensures, ← t.has.ensures, t.if-has.false, ← c.course_of-course.ensures))
