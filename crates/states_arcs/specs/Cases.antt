@@ -1,15 +1,15 @@
 -- One arc and its results, evaluated from the definitions; the figures come from an independent program. And refusals 7 and 8 by r.
-use Rattle.std.specs.Prelude.{◌≡◌, refl, ℕ, Float}
+use Rattle.std.specs.Prelude.{◌≡◌, refl, ℕ, Float, Ok, Err}
 use Rattle.std.specs.Float.{binary64}
 use Rattle.std.specs.Float.Ieee.{add, sub, mul, div, neg, lt, eq, of_bits, to_bits}
 use Rattle.bits.specs.Runs.{first_of, has}
+use Rattle.bits.specs.declared.refusal.Refusal.TheVariants.{RadiusNotPositive, EndNotFinite}
 use Rattle.series.specs.Series.{beyond_one, reduced_from, nested, c4_of, c5_of, at_reduced, coefficients_of, sums_of}
 use Rattle.search_points.specs.Residual.{radius_of}
 use Rattle.states_revolutions.specs.Revolutions.{as_it_is}
 use Rattle.states_arcs.specs.Results.{factors_of, end_state_of, arc_of, acceleration_of, results_of, figures_of, ended_of}
 use Rattle.states_start.specs.declared.figures.Vector.{Vector}
 use Rattle.states_arcs.specs.declared.figures.Arc.{Arc}
-use Rattle.states_arcs.specs.declared.figures.Ended.TheVariants as ended
 
 abbrev pub of_word : ℕ → Float
 of_word = of_bits binary64
@@ -64,7 +64,7 @@ its_parts = refl
 
 its_results :
     ended_of arc
-    ≡ ended.Results
+    ≡ Ok
     (record {
       end = arc.end;
       end_acceleration = vector 0xbfc4e790a69a161e 0xbfd75be8898eb64b 0xbfbb4792fd29ccea;
@@ -90,15 +90,15 @@ with_radius a r =
 
 not_above :
     (a : Arc) →
-    (ended_of (with_radius a 0) ≡ ended.Refused 7)
-    × (ended_of (with_radius a 0x8000000000000000) ≡ ended.Refused 7)
-    × (ended_of (with_radius a 0x8000000000000001) ≡ ended.Refused 7)
-    × (ended_of (with_radius a 0xfff0000000000000) ≡ ended.Refused 7)
-    × (ended_of (with_radius a 0x7ff8000000000000) ≡ ended.Refused 7)
+    (ended_of (with_radius a 0) ≡ Err RadiusNotPositive)
+    × (ended_of (with_radius a 0x8000000000000000) ≡ Err RadiusNotPositive)
+    × (ended_of (with_radius a 0x8000000000000001) ≡ Err RadiusNotPositive)
+    × (ended_of (with_radius a 0xfff0000000000000) ≡ Err RadiusNotPositive)
+    × (ended_of (with_radius a 0x7ff8000000000000) ≡ Err RadiusNotPositive)
 unfolding lt of_bits ended_of
 not_above a = (refl, refl, refl, refl, refl)
 
 -- The least double is above zero, and its cube is zero: 8.
-above : ended_of (with_radius arc 1) ≡ ended.Refused 8
+above : ended_of (with_radius arc 1) ≡ Err EndNotFinite
 unfolding add sub mul div neg lt eq of_bits to_bits acceleration_of results_of figures_of ended_of first_of has arc
 above = refl

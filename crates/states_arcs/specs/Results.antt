@@ -1,11 +1,13 @@
 -- Document 01, "Results and partials", its first paragraph, with refusals 7 and 8.
-use Rattle.std.specs.Prelude.{Bool, not, List, [], ◌∷◌, ◌++◌, Float}
+use Rattle.std.specs.Prelude.{Bool, not, List, [], ◌∷◌, ◌++◌, Float, Result, Ok, Err}
 use Rattle.std.specs.Float.Ieee.{lt, neg}
 use Rattle.bits.specs.Choice.{pick}
 use Rattle.bits.specs.Arithmetic.{◌⊕◌, ◌⊖◌, ◌⊗◌, ◌⊘◌, n0, n1}
 use Rattle.bits.specs.Words.{words_of}
 use Rattle.bits.specs.Runs.{has}
 use Rattle.bits.specs.declared.runs.Sought.TheVariants as sought
+use Rattle.bits.specs.declared.refusal.Refusal.{Refusal}
+use Rattle.bits.specs.declared.refusal.Refusal.TheVariants.{RadiusNotPositive, EndNotFinite}
 use Rattle.series.specs.Series.{coefficients_of, sums_of}
 use Rattle.series.specs.declared.figures.Anomaly.{Anomaly}
 use Rattle.series.specs.declared.figures.Seconds.{Seconds}
@@ -19,8 +21,6 @@ use Rattle.states_start.specs.declared.figures.Start.{Start}
 use Rattle.states_arcs.specs.declared.figures.Factors.{Factors}
 use Rattle.states_arcs.specs.declared.figures.Arc.{Arc}
 use Rattle.states_arcs.specs.declared.figures.Results.{Results}
-use Rattle.states_arcs.specs.declared.figures.Ended.{Ended}
-use Rattle.states_arcs.specs.declared.figures.Ended.TheVariants as ended
 
 -- "f = 1−(μ·s2)/r0; g = τ−μ·s3; f' = −((μ·s1)/(r·r0)); g' = 1−(μ·s2)/r"; T-04: "the search and f, g use τ − n·P".
 unfoldable pub factors_of : Initial → Seconds → Sums → (r : Float) → Factors
@@ -95,9 +95,9 @@ is_not_above r = not (lt n0 r)
 
 -- Refusal 8: "a divisor under Results and partials is zero, or a figure of the answer isn't finite", without the partials' own, which crate `states_partials`
 -- adds.
-unfoldable pub ended_of : Arc → Ended
+unfoldable pub ended_of : Arc → Result Results Refusal
 ended_of a =
-    pick (is_not_above a.r) (ended.Refused 7)
-    (pick (has sought.Zero (words_of (end_divisors a.start.initial.r0 a.r))) (ended.Refused 8)
-    (pick (has sought.NotFinite (words_of (figures_of (results_of a)))) (ended.Refused 8)
-    (ended.Results (results_of a))))
+    pick (is_not_above a.r) (Err RadiusNotPositive)
+    (pick (has sought.Zero (words_of (end_divisors a.start.initial.r0 a.r))) (Err EndNotFinite)
+    (pick (has sought.NotFinite (words_of (figures_of (results_of a)))) (Err EndNotFinite)
+    (Ok (results_of a))))

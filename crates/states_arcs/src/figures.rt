@@ -34,10 +34,3 @@ pub struct Results {
     pub start_acceleration: Vector,
     pub psi: Anomaly,
 }
-
-// The results of an arc, or the number of the refusal.
-#[derive(Clone, Copy)]
-pub enum Ended {
-    Results(Results),
-    Refused(u64),
-}

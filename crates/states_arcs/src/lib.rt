@@ -4,5 +4,5 @@
 pub mod figures;
 pub mod results;
 
-pub use figures::{Arc, Ended, Factors, Results};
+pub use figures::{Arc, Factors, Results};
 pub use results::{arc_at, ended, figures_of};

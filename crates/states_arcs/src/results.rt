@@ -3,9 +3,9 @@ ghost use Rattle.std.specs.Prelude.{◌≡◌};
 ghost use Rattle.bits.specs.Words.{words_of};
 ghost use Rattle.states_arcs.specs.Results.{factors_of, end_state_of, arc_of, acceleration_of, results_of, end_divisors, figures_of, ended_of};
 
-use super::figures::{Arc, Ended, Factors, Results};
-use bits::Sought;
+use super::figures::{Arc, Factors, Results};
 use bits::words::word_of;
+use bits::{Refusal, Sought};
 use search_points::{Initial, radius};
 use series::{Anomaly, Seconds, Sums};
 use states_revolutions::Interval;
@@ -132,20 +132,20 @@ pub fn figures_of(results: Results) -> [u64; 13]
 }
 
 // The results of an arc: refusal 7, then refusal 8 without the partials' own part, then the thirteen figures.
-pub fn ended(arc: Arc) -> Ended
+pub fn ended(arc: Arc) -> Result<Results, Refusal>
     ensures { result ≡ ended_of arc }
 {
     if !(arc.r > 0.0) {
-        return Ended::Refused(7);
+        return Err(Refusal::RadiusNotPositive);
     }
     let divisors = end_divisors(arc.start.initial.r0, arc.r);
     if bits::has(&divisors, Sought::Zero) {
-        return Ended::Refused(8);
+        return Err(Refusal::EndNotFinite);
     }
     let results = results_of(arc);
     let figures = figures_of(results);
     if bits::has(&figures, Sought::NotFinite) {
-        return Ended::Refused(8);
+        return Err(Refusal::EndNotFinite);
     }
-    Ended::Results(results)
+    Ok(results)
 }
