@@ -14,8 +14,7 @@ const PI: f64 = 3.141592653589793;
 fn revolution_of(initial: Initial) -> Revolution
     ensures { result ≡ revolution_of initial }
 {
-    let found = bits::root::root_of_figure(-initial.alpha);
-    let root = found.figure;
+    let root = bits::root::root_of_figure(-initial.alpha).unwrap_or(0.0);
     Revolution {
         period: Seconds(((2.0 * PI) * initial.mu) / ((-initial.alpha) * root)),
         anomaly: Anomaly((2.0 * PI) / root),

@@ -45,8 +45,7 @@ pub fn start_of(orbit: Orbit) -> Result<Begun, Refusal>
     if sum == 0.0 {
         return Err(Refusal::AtCentre);
     }
-    let root = bits::root::root_of_figure(sum);
-    let r0 = root.figure;
+    let r0 = bits::root::root_of_figure(sum).unwrap_or(0.0);
     let sigma0 = product(position, velocity);
     let v2 = product(velocity, velocity);
     let quotient = (2.0 * mu) / r0;
