@@ -6,14 +6,17 @@ use mathlib.Core.Logic.{◌⊎◌, inl, inr}
 use Prim.Native.Nat.{ℕ, zero, suc, ◌+◌, ◌*◌, ◌/◌, ◌%◌, ◌<◌}
 use native.Mathlib.Decide.{dec_lt}
 use native.Mathlib.Omega.{arith}
-use borrow.Author.Tests.{eq-eqb, ne_eqb}
+use borrow.Author.Tests.{eq-eqb}
 use lib.ListN.{length, get_or, length-append, get_or-append}
 use lib.Seq.{get_or_at}
 use lib.Ieee.{Float, nan}
+use Rattle.std.specs.Prelude.{Result, Ok, Err}
 use Rattle.bits.specs.Choice.{pick}
 use Rattle.bits.specs.Words.{words_of}
 use Rattle.bits.specs.Runs.{has}
 use Rattle.bits.specs.declared.runs.Sought.TheVariants.{Zero, NotFinite}
+use Rattle.bits.specs.declared.refusal.Refusal.{Refusal}
+use Rattle.bits.specs.declared.refusal.Refusal.TheVariants.{EndNotFinite}
 use Rattle.states_arcs.specs.declared.figures.Arc.{Arc}
 use Rattle.states_partials.specs.U.{u_of, u_refused}
 use Rattle.states_partials.specs.Matrix.{matrix_of, matrix_divisors}
@@ -47,17 +50,17 @@ by_row_and_column arc row column h l =
     up_to_at 36 (λ k. entry (k / 6) (k % 6)) (row * 6 + column) (omega arith) ∙ (λ i. entry (r i) (c i))
 
 -- To a run of 36 words they are written, or they are refused by 8;
-pub zero_or_eight : (arc : Arc) (run : List ℕ) → length run ≡ 36 → (partials_refusal arc run ≡ 0) ⊎ (partials_refusal arc run ≡ 8)
+pub zero_or_eight : (arc : Arc) (run : List ℕ) → length run ≡ 36 → (partials_refusal arc run ≡ Ok tt) ⊎ (partials_refusal arc run ≡ Err EndNotFinite)
 unfolding partials_refusal
 zero_or_eight arc run h = rw (eq-eqb (length run) 36 h) (go (has Zero (words_of (matrix_divisors arc.start.initial.r0 arc.r))) (u_refused arc) (has NotFinite (words_of (entries_of arc))))
   where
-    go : (zero whole bad : Bool) → let n : ℕ = pick zero 8 (pick whole 8 (pick bad 8 0)) in (n ≡ 0) ⊎ (n ≡ 8)
+    go : (zero whole bad : Bool) → let n : Result (Unit {0}) Refusal = pick zero (Err EndNotFinite) (pick whole (Err EndNotFinite) (pick bad (Err EndNotFinite) (Ok tt))) in (n ≡ Ok tt) ⊎ (n ≡ Err EndNotFinite)
     go true whole bad = inr refl
     go false true bad = inr refl
     go false false true = inr refl
     go false false false = inl refl
 
 -- and where they are refused, the run is as it was.
-pub kept : (arc : Arc) (run : List ℕ) → (partials_refusal arc run ≡ 0 → ⊥) → lent_after arc run ≡ run
+pub kept : (arc : Arc) (run : List ℕ) (r : Refusal) → partials_refusal arc run ≡ Err r → lent_after arc run ≡ run
 unfolding lent_after
-kept arc run h = rw (ne_eqb (partials_refusal arc run) 0 h)
+kept arc run r e = rw e

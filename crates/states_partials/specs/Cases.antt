@@ -1,6 +1,6 @@
 -- The 36 partials of three arcs, evaluated from the definitions: of the lower crate's case, and of two with whole revolutions. The
 -- figures come from an independent program.
-use Rattle.std.specs.Prelude.{◌≡◌, refl, List, [], ◌∷◌, ℕ, false}
+use Rattle.std.specs.Prelude.{◌≡◌, refl, List, [], ◌∷◌, ℕ, false, Option, Some}
 use Rattle.std.specs.Float.Ieee.{add, sub, mul, div, neg, lt, eq, of_int, of_bits, to_bits}
 use Rattle.bits.specs.Arithmetic.{n0}
 use Rattle.bits.specs.Runs.{first_of, has}
@@ -8,14 +8,13 @@ use Rattle.series.specs.Series.{beyond_one, reduced_from, nested, c4_of, c5_of, 
 use Rattle.search_points.specs.Residual.{radius_of}
 use Rattle.states_revolutions.specs.Floor.{floor_of}
 use Rattle.states_revolutions.specs.declared.figures.Interval.{Interval}
-use Rattle.states_revolutions.specs.declared.figures.Course.{Course}
-use Rattle.states_revolutions.specs.declared.figures.Course.TheVariants.{Closed}
+use Rattle.states_revolutions.specs.declared.figures.Revolution.{Revolution}
 use Rattle.states_start.specs.declared.figures.Start.{Start}
 use Rattle.states_arcs.specs.Results.{factors_of, end_state_of, arc_of}
 use Rattle.states_arcs.specs.declared.figures.Arc.{Arc}
 use Rattle.states_arcs.specs.Cases.{of_word, vector, arc}
 use Rattle.states_revolutions.specs.Revolutions.{as_it_is, without_n, without_revolutions, interval_of}
-use Rattle.states_partials.specs.U.{u_at_found, whole_anomaly_of, whole_sums_of, u_at_whole, u_of, u_refused}
+use Rattle.states_partials.specs.U.{u_at_found, whole_anomaly_of, whole_sums_of, sums_at_whole, u_at_whole, u_of, u_refused}
 use Rattle.states_partials.specs.Matrix.{matrix_of}
 use Rattle.states_partials.specs.Entries.{plus_of, minus_of, partial_of, unit_of, component_of, entry_of, up_to, entries_of}
 use Rattle.bits.specs.Words.{words_of}
@@ -24,7 +23,7 @@ use Rattle.bits.specs.Words.{words_of}
 computed : Arc → List ℕ
 unfolding
     add sub mul div neg lt eq of_int of_bits to_bits first_of has floor_of as_it_is without_n without_revolutions interval_of beyond_one reduced_from nested
-    c4_of c5_of at_reduced doublings quotients_of coefficients_of sums_of radius_of factors_of end_state_of arc_of u_at_found whole_anomaly_of whole_sums_of
+    c4_of c5_of at_reduced doublings quotients_of coefficients_of sums_of radius_of factors_of end_state_of arc_of u_at_found whole_anomaly_of whole_sums_of sums_at_whole
     u_at_whole u_of u_refused matrix_of plus_of minus_of partial_of unit_of component_of entry_of up_to entries_of
 computed a = words_of (entries_of a)
 
@@ -50,8 +49,8 @@ a_circle =
       initial = record { mu = of_word 0x3ff0000000000000; r0 = of_word 0x3ff0000000000000; sigma0 = of_word 0; alpha = of_word 0xbff0000000000000 };
     }
 
-its_course : Course
-its_course = Closed (record { period = record { 0 = of_word 0x401921fb54442d18 }; anomaly = record { 0 = of_word 0x401921fb54442d18 } })
+its_course : Option Revolution
+its_course = Some (record { period = record { 0 = of_word 0x401921fb54442d18 }; anomaly = record { 0 = of_word 0x401921fb54442d18 } })
 
 three_times : Interval
 three_times = interval_of its_course (record { 0 = of_word 0x4032d97c7f3321d2 })
@@ -72,7 +71,7 @@ it_comes_round = (refl, refl)
 -- The lower crate's orbit for 40 s: two revolutions of 18.89 s come off, and at the ψ of what is left no sum is zero.
 two_laps : Interval
 two_laps =
-    interval_of (Closed (record { period = record { 0 = of_word 0x4032e30370eec1e0 }; anomaly = record { 0 = of_word 0x402222c151418bc2 } }))
+    interval_of (Some (record { period = record { 0 = of_word 0x4032e30370eec1e0 }; anomaly = record { 0 = of_word 0x402222c151418bc2 } }))
     (record { 0 = of_word 0x4044000000000000 })
 
 it_goes_on :

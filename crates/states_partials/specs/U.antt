@@ -1,5 +1,5 @@
 -- U: document 01, "Results and partials", where no revolution came off; document 02, T-04, where some did. "U must use the whole interval", in both.
-use Rattle.std.specs.Prelude.{Bool, false, refl, List, [], ◌∷◌, Float}
+use Rattle.std.specs.Prelude.{Bool, false, refl, List, [], ◌∷◌, Float, Option, Some, None}
 use Rattle.std.specs.Float.{binary64}
 use Rattle.std.specs.Float.Ieee.{eq, of_bits, of_int}
 use Rattle.bits.specs.Choice.{pick}
@@ -8,8 +8,6 @@ use Rattle.bits.specs.Words.{words_of}
 use Rattle.bits.specs.Runs.{has}
 use Rattle.bits.specs.declared.runs.Sought.TheVariants.{NotFinite}
 use Rattle.series.specs.declared.figures.Anomaly.{Anomaly}
-use Rattle.states_revolutions.specs.declared.figures.Off.{Off}
-use Rattle.states_revolutions.specs.declared.figures.Off.TheVariants as off
 use Rattle.states_arcs.specs.declared.figures.Arc.{Arc}
 use Rattle.states_partials.specs.declared.u.WholeAnomaly.{WholeAnomaly}
 use Rattle.states_partials.specs.declared.u.WholeSums.{WholeSums}
@@ -51,17 +49,24 @@ u_figures a w = w.psi.0 ∷ w.s3 ∷ w.s4 ∷ w.s5 ∷ u_at_whole a w ∷ []
 abbrev pub sums_with : Arc → (off : Anomaly) → WholeSums
 sums_with a off = whole_sums_of a (whole_anomaly_of a off)
 
-abbrev pub u_by : Off → Arc → Float
-u_by (off.Revolutions n) a = u_at_whole a (sums_with a n)
-u_by off.Nothing a = u_at_found a
+abbrev pub sums_by : Option Anomaly → Arc → Option WholeSums
+sums_by (Some n) a = Some (sums_with a n)
+sums_by None a = None
+
+unfoldable pub sums_at_whole : Arc → Option WholeSums
+sums_at_whole a = sums_by a.interval.off a
+
+abbrev pub u_by : Option WholeSums → Arc → Float
+u_by (Some w) a = u_at_whole a w
+u_by None a = u_at_found a
 
 unfoldable pub u_of : Arc → Float
-u_of a = u_by a.interval.off a
+u_of a = u_by (sums_at_whole a) a
 
 -- "Refusals: 8 also for a whole ψ, s3, s4, s5 or U that isn't finite, when partials are asked for."
-abbrev pub u_refused_by : Off → Arc → Bool
-u_refused_by (off.Revolutions n) a = has NotFinite (words_of (u_figures a (sums_with a n)))
-u_refused_by off.Nothing a = false
+abbrev pub u_refused_by : Option WholeSums → Arc → Bool
+u_refused_by (Some w) a = has NotFinite (words_of (u_figures a w))
+u_refused_by None a = false
 
 unfoldable pub u_refused : Arc → Bool
-u_refused a = u_refused_by a.interval.off a
+u_refused a = u_refused_by (sums_at_whole a) a

@@ -10,6 +10,7 @@ use states_arcs::{Arc, Factors};
 use states_start::Vector;
 
 // A partial of the position: k·I and the four products.
+#[tactic(auto, unfolding(crate::specs::Entries::plus_of))]
 fn plus(k: f64, unit: f64, a: f64, b: f64, c: f64, d: f64, p: f64, w: f64, q: f64, u: f64) -> f64
     ensures { result ≡ plus_of k unit a b c d p w q u }
 {
@@ -17,6 +18,7 @@ fn plus(k: f64, unit: f64, a: f64, b: f64, c: f64, d: f64, p: f64, w: f64, q: f6
 }
 
 // A partial of the velocity: k·I less the four products.
+#[tactic(auto, unfolding(crate::specs::Entries::minus_of))]
 fn minus(k: f64, unit: f64, a: f64, b: f64, c: f64, d: f64, p: f64, w: f64, q: f64, u: f64) -> f64
     ensures { result ≡ minus_of k unit a b c d p w q u }
 {
@@ -24,6 +26,7 @@ fn minus(k: f64, unit: f64, a: f64, b: f64, c: f64, d: f64, p: f64, w: f64, q: f
 }
 
 // Component 0, 1 or 2 of a vector.
+#[tactic(auto, unfolding(crate::specs::Entries::component_of))]
 fn component(v: Vector, i: usize) -> f64
     ensures { result ≡ component_of v i }
 {
@@ -37,6 +40,7 @@ fn component(v: Vector, i: usize) -> f64
 }
 
 // I: 1 for like components, else +0.
+#[tactic(auto, unfolding(crate::specs::Entries::unit_of))]
 fn unit_of(i: usize, j: usize) -> f64
     ensures { result ≡ unit_of i j }
 {
@@ -44,6 +48,7 @@ fn unit_of(i: usize, j: usize) -> f64
 }
 
 // The partial of p, or of w, by q, or by u.
+#[tactic(auto, unfolding(crate::specs::Entries::partial_of))]
 fn partial(
     of_position: bool,
     by_position: bool,
@@ -70,6 +75,7 @@ fn partial(
 }
 
 // The partial in a row and a column, 0 to 5 each; p and w are the row's.
+#[tactic(auto, unfolding(crate::specs::Entries::entry_of))]
 fn entry(arc: Arc, a: Matrix, row: usize, column: usize, p: f64, w: f64) -> f64
     requires { (p ≡ component_of arc.end.position (row % 3)) × (w ≡ component_of arc.end.velocity (row % 3)) }
     ensures { result ≡ entry_of arc a row column }

@@ -4,7 +4,7 @@
 ghost use Rattle.std.specs.Prelude.{◌≡◌};
 ghost use Rattle.states_partials.specs.Partials.{partials_refusal, lent_after};
 
-use bits::Sought;
+use bits::{Refusal, Sought};
 use states_arcs::Arc;
 
 mod entries;
@@ -16,26 +16,27 @@ pub use matrix::{Matrix, matrix_divisors, matrix_of};
 pub use u::{u_of, u_refused};
 
 // Writes the words of the 36 partials of an arc to the run, or none of them. Refusal 1 where the run isn't exactly 36 long; 8 where a divisor of theirs is
-// zero, or a partial or a figure that U is made of isn't finite; else 0. Partials of position by position and of velocity by velocity are numbers, of position
+// zero, or a partial or a figure that U is made of isn't finite. Partials of position by position and of velocity by velocity are numbers, of position
 // by velocity in s, of velocity by position in 1/s.
-pub fn write_partials(arc: Arc, run: &mut [u64]) -> u64
+#[tactic(auto, using(bits::proofs::RunLaws::copied_all), unfolding(crate::specs::Partials::partials_refusal, crate::specs::Partials::lent_after))]
+pub fn write_partials(arc: Arc, run: &mut [u64]) -> Result<(), Refusal>
     ensures refusal { result ≡ partials_refusal arc run.old }
     ensures lent { run.new ≡ lent_after arc run.old }
 {
     if run.len() != 36 {
-        return 1;
+        return Err(Refusal::PartialsLength);
     }
     let divisors = matrix_divisors(arc.start.initial.r0, arc.r);
     if bits::has(&divisors, Sought::Zero) {
-        return 8;
+        return Err(Refusal::EndNotFinite);
     }
     if u_refused(arc) {
-        return 8;
+        return Err(Refusal::EndNotFinite);
     }
     let table = entries(arc);
     if bits::has(&table, Sought::NotFinite) {
-        return 8;
+        return Err(Refusal::EndNotFinite);
     }
     bits::copy_words(&table, run);
-    0
+    Ok(())
 }

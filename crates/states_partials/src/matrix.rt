@@ -21,6 +21,7 @@ pub struct Matrix {
 }
 
 // A11 to A33, from U.
+#[tactic(auto, unfolding(crate::specs::Matrix::matrix_of))]
 pub fn matrix_of(arc: Arc, u: f64) -> Matrix
     ensures { result ≡ matrix_of arc u }
 {

@@ -2,13 +2,12 @@
 // "Results and partials"; document 02, T-04).
 ghost use Rattle.std.specs.Prelude.{◌≡◌};
 ghost use Rattle.bits.specs.Words.{words_of};
-ghost use Rattle.states_partials.specs.U.{whole_anomaly_of, whole_sums_of, u_at_found, u_at_whole, u_figures, u_of, u_refused};
+ghost use Rattle.states_partials.specs.U.{whole_anomaly_of, whole_sums_of, sums_at_whole, u_at_found, u_at_whole, u_figures, u_of, u_refused};
 
 use bits::Sought;
 use bits::words::word_of;
 use series::Anomaly;
 use states_arcs::Arc;
-use states_revolutions::Off;
 
 // The whole anomaly (s/km), revolutions included. The one that was found is of type `Anomaly`: neither stands for the other.
 #[derive(Clone, Copy)]
@@ -24,6 +23,7 @@ pub struct WholeSums {
 }
 
 // The whole anomaly of an arc: the found one and n·Q.
+#[tactic(auto, unfolding(crate::specs::U::whole_anomaly_of))]
 fn whole_anomaly(arc: Arc, off: Anomaly) -> WholeAnomaly
     ensures { result ≡ whole_anomaly_of arc off }
 {
@@ -34,6 +34,7 @@ fn whole_anomaly(arc: Arc, off: Anomaly) -> WholeAnomaly
 }
 
 // s3, s4 and s5 at the whole anomaly. s1 and s2 are those of the found one: revolutions do not change them.
+#[tactic(auto, unfolding(crate::specs::U::whole_sums_of))]
 fn whole_sums(arc: Arc, psi: WholeAnomaly) -> WholeSums
     ensures { result ≡ whole_sums_of arc psi }
 {
@@ -45,7 +46,17 @@ fn whole_sums(arc: Arc, psi: WholeAnomaly) -> WholeSums
     WholeSums { psi, s3, s4, s5 }
 }
 
+// The sums at the whole anomaly, where revolutions came off.
+#[tactic(auto, unfolding(crate::specs::U::sums_at_whole))]
+fn sums_at_whole(arc: Arc) -> Option<WholeSums>
+    ensures { result ≡ sums_at_whole arc }
+{
+    let off = arc.interval.off?;
+    Some(whole_sums(arc, whole_anomaly(arc, off)))
+}
+
 // U where no revolution came off.
+#[tactic(auto, unfolding(crate::specs::U::u_at_found))]
 fn u_at_found(arc: Arc) -> f64
     ensures { result ≡ u_at_found arc }
 {
@@ -55,6 +66,7 @@ fn u_at_found(arc: Arc) -> f64
 }
 
 // U at the whole anomaly.
+#[tactic(auto, unfolding(crate::specs::U::u_at_whole))]
 fn u_at_whole(arc: Arc, w: WholeSums) -> f64
     ensures { result ≡ u_at_whole arc w }
 {
@@ -75,28 +87,20 @@ fn u_figures(arc: Arc, w: WholeSums) -> [u64; 5]
 }
 
 // U (s^3/km^2). It takes the whole interval, whatever came off.
+#[tactic(auto, unfolding(crate::specs::U::u_of))]
 pub fn u_of(arc: Arc) -> f64
     ensures { result ≡ u_of arc }
 {
-    let interval = arc.interval;
-    let came_off = interval.off;
-    match came_off {
-        Off::Revolutions(off) => u_at_whole(arc, whole_sums(arc, whole_anomaly(arc, off))),
-        Off::Nothing => u_at_found(arc),
+    match sums_at_whole(arc) {
+        Some(sums) => u_at_whole(arc, sums),
+        None => u_at_found(arc),
     }
 }
 
 // Whether what U is made of at the whole anomaly gives refusal 8.
+#[tactic(auto, unfolding(crate::specs::U::u_refused))]
 pub fn u_refused(arc: Arc) -> bool
     ensures { result ≡ u_refused arc }
 {
-    let interval = arc.interval;
-    let came_off = interval.off;
-    match came_off {
-        Off::Revolutions(off) => {
-            let words = u_figures(arc, whole_sums(arc, whole_anomaly(arc, off)));
-            bits::has(&words, Sought::NotFinite)
-        }
-        Off::Nothing => false,
-    }
+    sums_at_whole(arc).is_some_and(|sums| bits::has(&u_figures(arc, sums), Sought::NotFinite))
 }
