@@ -8,24 +8,22 @@
 // looks at what it wrote: an empty output is never a result file.
 #![tactic(auto)]
 
-mod noted;
+mod reason;
 
-ghost use Rattle.std.specs.Prelude.{◌≡◌, List, ◌++◌, ℕ, ◌+◌, ◌<◌, length, take};
+ghost use Rattle.std.specs.Prelude.{◌≡◌, List, ◌++◌, ℕ, ◌≤◌, length, take};
 ghost use Rattle.std.specs.Counts.{IsPrefixLen};
-ghost use Rattle.files_reader.specs.Reader.{longest_file};
 ghost use Rattle.files_results.specs.Results.{result_file};
 
 use files_results::LONGEST_RESULT;
-use noted::Noted;
+use reason::Reason;
 use std::env::{Env, FillError};
 use std::fs::File;
 use std::io::{Cursor, Read, Write};
 use std::{io, str};
-use streams::Taken;
 
 fn main(rt: HostRuntime) {
     if is_given(&rt, 2) {
-        streams::write_whole(&mut rt.stderr(), b"usage: propagate [FILE]\n");
+        let _ = streams::write_whole(&mut rt.stderr(), b"usage: propagate [FILE]\n");
     } else if is_given(&rt, 1) {
         propagate_named(&rt);
     } else {
@@ -38,20 +36,13 @@ fn is_given(rt: &HostRuntime, number: usize) -> bool {
     !matches!(rt.arg(number, &mut []), Err(FillError::NotPresent))
 }
 
-// The numbers of three reasons, by the C library.
-const INVALID_ARGUMENT: i32 = 22;
-
-const NAME_TOO_LONG: i32 = 36;
-
-const NOT_TEXT: i32 = 84;
-
 // The file that the first argument names. A name that is not UTF-8 cannot be opened.
 fn propagate_named(rt: &HostRuntime) {
     let mut path = [0u8; 4096];
     match rt.arg(1, &mut path) {
         Ok(size) => propagate_path(rt, &path[..size]),
-        Err(FillError::TooLong) => fail_by(rt, b"the name of the file", NAME_TOO_LONG),
-        Err(FillError::NotPresent) => fail_by(rt, b"the name of the file", INVALID_ARGUMENT),
+        Err(FillError::TooLong) => fail(rt, b"the name of the file", Reason::NameTooLong),
+        Err(FillError::NotPresent) => fail(rt, b"the name of the file", Reason::InvalidArgument),
     }
 }
 
@@ -61,7 +52,7 @@ fn propagate_path(rt: &HostRuntime, path: &[u8]) {
             Ok(file) => propagate(rt, file, path),
             Err(error) => fail(rt, path, error),
         },
-        Err(_) => fail_by(rt, path, NOT_TEXT),
+        Err(_) => fail(rt, path, Reason::NotText),
     }
 }
 
@@ -72,51 +63,41 @@ const READ: usize = files_formats::LONGEST_FILE + 1;
 //
 // The file is closed before anything is written: where an output was closed when the program started,
 // the file has been given that output's number.
-fn propagate<R: Read + Drop>(rt: &HostRuntime, input: R, name: &[u8]) {
+fn propagate<R: Read + Drop>(rt: &HostRuntime, mut input: R, name: &[u8]) {
     let mut file = [0u8; READ];
-    let mut input = Noted::new(input);
     match streams::read_whole(&mut input, &mut file) {
-        Taken::Bytes(n) => {
+        Ok(size) => {
             drop(input);
-            answer(rt, &file, n);
+            answer(rt, &file[..size]);
         }
-        Taken::Failed => {
-            fail(rt, name, input.reason());
-        }
+        Err(error) => fail(rt, name, error),
     }
 }
 
-// Writes the result file of an element file, of which so many bytes were read, to standard output.
-fn answer(rt: &HostRuntime, file: &[u8], n: usize)
-    requires { IsPrefixLen n file.now × (length file.now ≡ longest_file + 1) }
-{
+// Writes the result file of what was read to standard output.
+fn answer(rt: &HostRuntime, file: &[u8]) {
     let mut room = [0u8; LONGEST_RESULT];
-    let size = results_of(file, n, &mut room);
-    let mut output = Noted::new(rt.stdout());
-    if let Taken::Failed = streams::write_whole(&mut output, &room[..size]) {
-        fail(rt, b"standard output", output.reason());
+    let size = results_of(file, &mut room);
+    if let Err(error) = streams::write_whole(&mut rt.stdout(), &room[..size]) {
+        fail(rt, b"standard output", error);
     }
 }
 
-// The result file of what was read stands at the start of the room, which is as long as the longest. Answers its size. Where the
-// buffer is full, it is the result file of every longer file that begins so: the reader walks forward, no word that it asks for
-// stands behind byte 56,160, and where it finds no fault before, a byte is left after the last section: 25.
-fn results_of(file: &[u8], n: usize, room: &mut [u8; LONGEST_RESULT]) -> usize
-    requires { IsPrefixLen n file.now × (longest_file < length file.now) }
+// The result file of what was read stands at the start of the room, which is as long as the longest. Answers its size. Where as much
+// was read as is read of any file, it is the result file of every longer file that begins so: the reader walks forward, no word that
+// it asks for stands behind byte 56,160, and where it finds no fault before, a byte is left after the last section: 25.
+fn results_of(file: &[u8], room: &mut [u8; LONGEST_RESULT]) -> usize
     ensures size { IsPrefixLen result room.new }
-    ensures read { take result room.new ≡ result_file (take n file.now) }
-    ensures longer { n ≡ length file.now → (rest : List ℕ) → take result room.new ≡ result_file (file.now ++ rest) }
+    ensures read { take result room.new ≡ result_file file.now }
+    ensures longer { READ ≤ length file.now → (rest : List ℕ) → take result room.new ≡ result_file (file.now ++ rest) }
 {
-    let outcome = files_results::write_results(&file[..n], room);
+    let outcome = files_results::write_results(file, room);
     outcome.size
 }
 
-fn fail_by(rt: &HostRuntime, what: &[u8], number: i32) {
-    fail(rt, what, io::Error::from_raw_os_error(number));
-}
-
 // Says on standard error what failed, and why. The reason is the C library's text alone: std adds its number.
-fn fail(rt: &HostRuntime, what: &[u8], error: io::Error) {
+fn fail(rt: &HostRuntime, what: &[u8], error: impl Into<io::Error>) {
+    let error: io::Error = error.into();
     let mut room = [0u8; 288];
     let mut said = Cursor::new(&mut room[..]);
     let _ = write!(said, "{error}");
@@ -125,9 +106,10 @@ fn fail(rt: &HostRuntime, what: &[u8], error: io::Error) {
         Ok(text) => text.split_once(" (os error ").map_or(text, |parts| parts.0),
         Err(_) => "",
     };
+    // Where standard error takes nothing, there is nowhere left to say so.
     let mut errors = rt.stderr();
-    streams::write_whole(&mut errors, what);
-    streams::write_whole(&mut errors, b": ");
-    streams::write_whole(&mut errors, reason.as_bytes());
-    streams::write_whole(&mut errors, b"\n");
+    let _ = streams::write_whole(&mut errors, what);
+    let _ = streams::write_whole(&mut errors, b": ");
+    let _ = streams::write_whole(&mut errors, reason.as_bytes());
+    let _ = streams::write_whole(&mut errors, b"\n");
 }

@@ -8,6 +8,5 @@ mod calls;
 mod input;
 mod output;
 
-pub use calls::Taken;
 pub use input::read_whole;
 pub use output::write_whole;

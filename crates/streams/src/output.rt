@@ -1,42 +1,43 @@
 // A whole run of bytes to an output.
-ghost use Rattle.std.specs.Prelude.{length};
-ghost use Rattle.streams.specs.Calls.{Part, All};
+ghost use Rattle.streams.specs.Calls.{All};
 
-use super::calls::{Call, PATIENCE, Taken, Then, after, call_of};
+use super::calls::{Mover, move_whole};
+use std::io;
 use std::io::{ErrorKind, Write};
 
-// One write, of the first bytes.
-fn write_some<W: Write>(output: &mut W, bytes: &[u8]) -> Call
-    ensures { Part result (length bytes.now) }
-{
-    match output.write(bytes) {
-        Ok(put) => call_of(put as isize, false),
-        Err(error) => call_of(-1, error.kind() == ErrorKind::Interrupted),
+// A writer, and the bytes for it.
+#[derive(Drop)]
+struct Output<'a, W> {
+    writer: &'a mut W,
+    bytes: &'a [u8],
+}
+
+impl<W: Write> Mover for Output<'_, W> {
+    ghost use Rattle.std.specs.Prelude.{◌≡◌, length, refl};
+
+    ghost size = { λ output. length output.bytes.now };
+
+    // All of the bytes have to be written.
+    ghost suffices = { λ size moved. moved ≡ size };
+
+    ghost all_suffice = { λ _. refl };
+
+    fn size(&self) -> usize {
+        self.bytes.len()
+    }
+
+    fn move_some(&mut self, behind: usize) -> io::Result<usize> {
+        self.writer.write(&self.bytes[behind..])
+    }
+
+    fn stopped(&self, _moved: usize) -> io::Result<usize> {
+        Err(io::Error::from(ErrorKind::WriteZero))
     }
 }
 
 // Writes all of the bytes, or stops at a call that fails or takes nothing. Some of the bytes may be written then.
-pub fn write_whole<W: Write>(output: &mut W, bytes: &[u8]) -> Taken
+pub fn write_whole<W: Write>(writer: &mut W, bytes: &[u8]) -> io::Result<usize>
     ensures { All result bytes.now }
 {
-    let size = bytes.len();
-    let mut left = size;
-    let mut patience = PATIENCE;
-    while 0 < left {
-        let n = size - left;
-        let call = write_some(output, &bytes[n..]);
-        match after(call, left, patience) {
-            Then::On {
-                left: rest,
-                patience: still,
-            } => {
-                left = rest;
-                patience = still;
-            }
-            _ => {
-                return Taken::Failed;
-            }
-        }
-    }
-    Taken::Bytes(size - left)
+    move_whole(&mut Output { writer, bytes })
 }

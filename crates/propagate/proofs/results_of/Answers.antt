@@ -1,8 +1,7 @@
--- The room is long enough, so the outcome's size is that of the result file, which stands at its start; and a full buffer is long enough for `cut`.
-use Rattle.std.proofs.Common.{rules, arith, ◌≡◌, sym, ap, subst, ◌∙◌, List, ◌++◌, ℕ, ◌<◌, length, take, take_all}
+-- The room is long enough, so the outcome's size is that of the result file, which stands at its start; and as much as is read of any file is long enough for `cut`.
+use Rattle.std.proofs.Common.{rules, arith, ◌≡◌, sym, ap, subst, ◌∙◌, List, ℕ, length, take}
 use Rattle.std.specs.Counts.{IsPrefixLen}
 use Rattle.files_words.specs.Bytes.{put}
-use Rattle.files_reader.specs.Reader.{longest_file}
 use Rattle.files_results.specs.Results.{longest_result, result_file, outcome_in}
 use Rattle.files_results.specs.declared.Outcome.{Outcome}
 use Rattle.propagate.proofs.Longest.{longest, put_first}
@@ -20,13 +19,9 @@ told file room now outcome l e p =
     (subst (λ (n : ℕ). Holds file n (put room 0 (result_file file))) (sym (ap (λ (o : Outcome). o.size) e))
     (put_first room (result_file file) (omega (arith, longest file))))
 
--- A full buffer, and whatever follows in the file.
-longer : (file : List ℕ) (n : ℕ) → longest_file < length file → n ≡ length file → (rest : List ℕ) → result_file (take n file) ≡ result_file (file ++ rest)
-longer file n long full rest = ap result_file (take_all n file (omega arith)) ∙ sym (cut file rest long)
-
 pub returns : goal.returns
 returns c =
     let a = c.args in
     let e = c.write_results-outcome.ensures in
-    let t = told (take a.n a.file.now) a.room.now _ c.write_results-outcome.result (search rules) e.outcome e.room in
-    record { size = t.0; read = t.1; longer = λ full rest. t.1 ∙ longer a.file.now a.n c.requires.1 full rest }
+    let t = told a.file.now a.room.now _ c.write_results-outcome.result (search rules) e.outcome e.room in
+    record { size = t.0; read = t.1; longer = λ full rest. t.1 ∙ sym (cut a.file.now rest (omega arith)) }
