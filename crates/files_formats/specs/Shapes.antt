@@ -2,8 +2,7 @@
 -- word".
 use Rattle.std.specs.Prelude.{ℕ, ◌+◌, ◌*◌, List, [], length}
 use Rattle.files_records.specs.Records.{record_place}
-use Rattle.files_checks.specs.declared.Check.{Check}
-use Rattle.files_checks.specs.Checks.{walk, counted_check}
+use Rattle.files_checks.specs.Checks.{Check, walk, counted_check}
 use Rattle.files_formats.specs.declared.elements.Edition.{Edition}
 use Rattle.files_formats.specs.declared.elements.Section.{Section}
 use Rattle.files_formats.specs.declared.elements.Section.TheVariants.{Centres, States, Requests}

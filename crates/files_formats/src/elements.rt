@@ -6,13 +6,13 @@ ghost use Rattle.files_formats.specs.Elements.{edition_word, is_edition, edition
 use crate::kinds::Kind;
 
 // The editions of the element file.
-#[derive(Clone, Copy)]
+#[derive(Clone, Copy, Debug, PartialEq, Eq)]
 pub enum Edition {
     One,
 }
 
 // Which section, in the order of the file.
-#[derive(Clone, Copy)]
+#[derive(Clone, Copy, Debug, PartialEq, Eq)]
 pub enum Section {
     Centres,
     States,
@@ -20,7 +20,7 @@ pub enum Section {
 }
 
 // A column by its name; the position and the velocity are three columns each, from this one on.
-#[derive(Clone, Copy)]
+#[derive(Clone, Copy, Debug, PartialEq, Eq)]
 pub enum Column {
     Mu,
     Centre,

@@ -1,10 +1,11 @@
 // What a word of a section may be.
 ghost use Rattle.std.specs.Prelude.{◌≡◌, []};
-ghost use Rattle.bits.specs.Choice.{pick};
 ghost use Rattle.files_formats.specs.Kinds.{asks, fault_of};
 
+use bits::Refusal;
+
 // A figure, of any bits; the number of a record of another section.
-#[derive(Clone, Copy)]
+#[derive(Clone, Copy, Debug, PartialEq, Eq)]
 pub enum Kind {
     Figure,
     Number,
@@ -20,19 +21,12 @@ pub fn asks(kind: Kind) -> bool
     }
 }
 
-// A number where a test fails, else what comes next.
-fn refuse(holds: bool, number: u64, next: u64) -> u64
-    ensures { result ≡ pick holds next number }
-{
-    if holds { next } else { number }
-}
-
-// The refusal of a word by its kind, or 0; `below` is how many records its number may be one of.
-pub fn fault(kind: Kind, below: usize, word: u64) -> u64
+// The refusal of a word by its kind; `below` is how many records its number may be one of.
+pub fn fault(kind: Kind, below: usize, word: u64) -> Option<Refusal>
     ensures { result ≡ fault_of kind below [] word }
 {
     match kind {
-        Kind::Figure => 0,
-        Kind::Number => refuse(word < below as u64, 24, 0),
+        Kind::Number if below as u64 <= word => Some(Refusal::NoSuchRecord),
+        Kind::Figure | Kind::Number => None,
     }
 }

@@ -3,6 +3,7 @@
 
 mod elements;
 mod files;
+mod firsts;
 mod kinds;
 pub mod rows;
 mod runs;

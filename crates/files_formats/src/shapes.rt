@@ -5,7 +5,7 @@ ghost use Rattle.files_formats.specs.Shapes.{count_of, below_of, span_of, place_
 
 use crate::elements::{Edition, Section, width};
 
-#[derive(Clone, Copy)]
+#[derive(Clone, Copy, Debug, PartialEq, Eq)]
 pub struct Shape {
     pub edition: Edition,
     pub centres: u16,
@@ -81,25 +81,18 @@ impl Shape {
     pub fn with(self, section: Section, count: u16) -> Shape
         ensures { result ≡ with_count self section count }
     {
-        let edition = self.edition;
         match section {
             Section::Centres => Shape {
-                edition,
                 centres: count,
-                states: self.states,
-                requests: self.requests,
+                ..self
             },
             Section::States => Shape {
-                edition,
-                centres: self.centres,
                 states: count,
-                requests: self.requests,
+                ..self
             },
             Section::Requests => Shape {
-                edition,
-                centres: self.centres,
-                states: self.states,
                 requests: count,
+                ..self
             },
         }
     }

@@ -1,13 +1,12 @@
 -- The count, then the walk over as many words as it tells.
-use Prim.Native.Nat.{ℕ, ◌+◌, ◌*◌}
+use Prim.Native.Nat.{ℕ, ◌+◌, ◌*◌, ◌^◌, ◌<◌, ◌≤◌}
 use native.Mathlib.Omega.{arith}
 use mathlib.Core.List.{List, []}
-use Rattle.files_checks.specs.declared.Check.{Check}
 use mathlib.Core.Path.{◌≡◌, sym, ap, ap₂, ◌∙◌}
 use borrow.Author.Rules.{rules}
 use Rattle.files_words.specs.Bytes.{word_at, words_from}
-use Rattle.files_checks.specs.Checks.{walk, count_check, counted_check}
-use Rattle.files_checks.proofs.CheckLaws.{stops, goes_on}
+use Rattle.files_checks.specs.Checks.{Check, walk, count_check, counted_check}
+use Rattle.files_checks.proofs.CheckLaws.{goes_on}
 use Rattle.files_checks.proofs.CountedLaws.{few_words}
 use Rattle.files_formats.specs.Kinds.{ruling_of}
 use Rattle.files_formats.specs.Elements.{kinds_of}
@@ -18,26 +17,23 @@ use Rattle.files_formats.proofs.files.check_section.Goals as goal
 counted : (file : List ℕ) {check : Check} {place limit : ℕ} {p l : ℕ} → check ≡ count_check file place limit → place ≡ p → limit ≡ l → check ≡ count_check file p l
 counted file e p l = e ∙ ap₂ (count_check file) p l
 
-pub returns-in_default : goal.returns-in_default
+-- the words are few
+few : (c : goal.After-width) → c.word_at.result * c.width.result ≤ 2 ^ 16 * 2 ^ 16
+few c =
+    (few_words c.args.file.now c.place-place.result c.limit.result c.width.result (search rules) (omega (arith, c.width.ensures.2))
+    (sym c.check_count.ensures ∙ c.in_ok-check_count.was) c.word_at.ensures).1
+
+pub returns-in_err-check_count : goal.returns-in_err-check_count
 unfolding section_check counted_check
-returns-in_default c =
-    stops _ _ _ (counted c.args.file.now c.check_count-count.ensures c.place-place.ensures.0 c.limit.ensures) c.in_default.is
+returns-in_err-check_count c =
+    let k = counted c.args.file.now c.check_count.ensures c.place-place.ensures.0 c.limit.ensures in
+    grind (arith, k)
 
 pub overflow_mul-words : goal.overflow_mul-words
-overflow_mul-words c =
-    let few =
-    few_words c.args.file.now c.place-place.result c.limit.result c.width.result (search rules) (omega (arith, c.width.ensures.2))
-    (sym c.check_count-count.ensures ∙ c.in-Sound.is) c.word_at.ensures
-    in
-    omega (arith, few)
+overflow_mul-words c = omega (arith, few c)
 
 pub walk_words-requires : goal.walk_words-requires
-walk_words-requires c =
-    let few =
-    few_words c.args.file.now c.place-place.result c.limit.result c.width.result (search rules) (omega (arith, c.width.ensures.2))
-    (sym c.check_count-count.ensures ∙ c.in-Sound.is) c.word_at.ensures
-    in
-    omega (arith, few, c.place-place.ensures.1)
+walk_words-requires c = omega (arith, few c, c.place-place.ensures.1)
 
 pub returns : goal.returns
 unfolding section_check counted_check
@@ -45,7 +41,6 @@ returns c =
     let a = c.args in
     let place = c.place-place.ensures.0 in
     let words = ap₂ ◌*◌ (c.word_at.ensures ∙ ap (word_at a.file.now) place) c.width.ensures.0 in
-    goes_on (counted a.file.now c.check_count-count.ensures place c.limit.ensures) c.in-Sound.is
-    (c.walk_words.ensures
-    ∙ ap₂ (λ (below p : ℕ). walk (ruling_of (kinds_of a.shape.edition a.section) below) (p + 8) [] (c.word_at.result * c.width.result) (words_from a.file.now (p + 8))) c.below.ensures place
-    ∙ ap (λ (n : ℕ). walk (ruling_of (kinds_of a.shape.edition a.section) (below_of a.shape a.section)) (place_of a.shape a.section + 8) [] n (words_from a.file.now (place_of a.shape a.section + 8))) words)
+    let rule = ruling_of (kinds_of a.shape.edition a.section) (below_of a.shape a.section) in
+    goes_on (counted a.file.now c.check_count.ensures place c.limit.ensures) c.in_ok-check_count.was
+    (c.walk_words.ensures ∙ ap₂ (λ (p n : ℕ). walk rule (p + 8) [] n (words_from a.file.now (p + 8))) place words)
