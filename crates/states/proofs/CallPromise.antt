@@ -3,106 +3,78 @@ use mathlib.Core.Path.{◌≡◌, refl, ◌∙◌, ap}
 use mathlib.Core.Logic.{◌⊎◌, inl, inr, ⊎_elim}
 use mathlib.Core.Bool.{Bool, true, false, not}
 use mathlib.Core.List.{List}
-use Prim.Native.Nat.{ℕ, ◌<◌}
+use Prim.Native.Nat.{ℕ}
 use native.Mathlib.Omega.{arith}
-use borrow.Author.Tests.{eq-eqb, ne_eqb}
+use borrow.Author.Tests.{eq-eqb}
 use lib.Dec.{eqb}
 use lib.ListN.{length}
 use lib.Ieee.{Float, nan, inf, fin, mul, div, of_bits}
+use Rattle.std.specs.Prelude.{Option, None, Result, Ok, Err}
 use Rattle.bits.specs.Choice.{pick}
+use Rattle.bits.specs.declared.refusal.Refusal.{Refusal}
+use Rattle.bits.specs.declared.refusal.Refusal.TheVariants.{PartialsLength, StartNotFinite, RadiusNotPositive, EndNotFinite}
 use Rattle.bits.specs.Arithmetic.{◌⊗◌, ◌⊘◌, n0, is_finite}
 use Rattle.bits.specs.Words.{words_of}
-use Rattle.search.specs.Search.{Proposing}
+use Rattle.search.specs.Search.{Finding, Proposing}
 use Rattle.series.specs.declared.figures.Anomaly.{Anomaly}
 use Rattle.series.specs.declared.figures.Seconds.{Seconds}
 use Rattle.search_points.specs.Trial.{anomaly_at}
-use Rattle.search.specs.declared.figures.Finding.{Finding}
-use Rattle.search.specs.declared.figures.Finding.TheVariants as finding
 use Rattle.search.specs.SearchPromise.{used_in, Demand3}
 use Rattle.search.proofs.Instance.{promise_by, demand3_by}
-use Rattle.states_arcs.specs.Results.{arc_of, results_of, ended_of}
+use Rattle.states_arcs.specs.Results.{arc_of, ended_of}
+use Rattle.states_arcs.specs.Results as arcs
 use Rattle.states_arcs.specs.declared.figures.Arc.{Arc}
 use Rattle.states_arcs.specs.declared.figures.Results.{Results}
-use Rattle.states_arcs.specs.declared.figures.Ended.{Ended}
-use Rattle.states_arcs.specs.declared.figures.Ended.TheVariants as ended
 use Rattle.states_partials.specs.Entries.{entries_of}
 use Rattle.states_arcs.proofs.EndLaws.{seven_or_eight}
 use Rattle.states_partials.proofs.EntryLaws.{zero_or_eight}
 use Rattle.states_partials.specs.Partials.{partials_refusal, lent_after}
+use Rattle.states_partials.specs.Partials.{lent_by as lent_by_result}
 use Rattle.search_points.specs.declared.figures.Initial.{Initial}
 use Rattle.states_revolutions.specs.Revolutions.{interval_of}
 use Rattle.states_revolutions.proofs.RevolutionLaws.{nothing_off}
 use Rattle.states_revolutions.specs.declared.figures.WholeInterval.{WholeInterval}
 use Rattle.states_revolutions.specs.declared.figures.Interval.{Interval}
-use Rattle.states_revolutions.specs.declared.figures.Course.{Course}
-use Rattle.states_revolutions.specs.declared.figures.Off.TheVariants as off
+use Rattle.states_revolutions.specs.declared.figures.Revolution.{Revolution}
 use Rattle.states_start.specs.Given.{read_of}
 use Rattle.states_start.specs.Initial.{begun_of, two_to_minus20, first_step_of}
 use Rattle.states_start.specs.declared.figures.Orbit.{Orbit}
-use Rattle.states_start.specs.declared.figures.Read.{Read}
-use Rattle.states_start.specs.declared.figures.Read.TheVariants as read
-use Rattle.states_start.specs.declared.figures.Begun.TheVariants as begun
+use Rattle.states_start.specs.declared.figures.Given.{Given}
 use Rattle.states_start.specs.declared.figures.Begun.{Begun}
 use Rattle.states_start.specs.declared.figures.Start.{Start}
-use Rattle.states.specs.Call.{Finder, searching, Parting, wholly, no_results, refused, answered, reached_found, reached_over_by, reached_from_by, reached_begun_by, reached_orbit_by, reached_read_by, reached_words_by, ended_answer, answer_from, propagate_by}
-use Rattle.states.specs.WithPartials.{with_partials, ended_with, lent_ended, partials_from, lent_from, partials_by, lent_by}
+use Rattle.states.specs.Call.{Finder, searching, Parting, wholly, Reaching, Answering, no_results, refused, answered, refusal_of, points_of, results_of, reached_found, reached_over_by, reached_from_by, reached_begun_by, reached_orbit_by, reached_read_by, reached_words_by, ended_answer, answer_from, propagate_by}
+use Rattle.states.specs.WithPartials.{written, with_partials, ended_with, lent_ended, partials_from, lent_from, partials_by, lent_by}
 use Rattle.states.specs.CallPromise.{ZerosOrAnswer, UnchangedOrAnswer, Searches, interval_in, searched_in, Ending, EndsWith, EndsWithPartials, Reports, FindsAnomaly, CountsPoints, SearchesFinite, AtOnce, NothingSearched, Else01Stands}
-use Rattle.states.specs.declared.figures.Reached.{Reached}
-use Rattle.states.specs.declared.figures.Reached.TheVariants as reached
-use Rattle.states.specs.declared.figures.Answer.{Answer}
 
 -- ---- Demand 1
-abbrev Clean : Answer → Type 0
-Clean a = (a.refusal ≡ 0) ⊎ (a.results ≡ no_results)
 
-refused_clean : (k n : ℕ) → Clean (refused k n)
-unfolding refused
-refused_clean k n = inr refl
-
-answered_clean : (n : ℕ) (r : Results) → Clean (answered n r)
-unfolding answered
-answered_clean n r = inl refl
-
-ended_clean : (n : ℕ) (e : Ended) → Clean (ended_answer n e)
-unfolding ended_answer
-ended_clean n (ended.Results r) = answered_clean n r
-ended_clean n (ended.Refused k) = refused_clean _ n
-
-by_clean : (x : Reached) → Clean (answer_from x)
-by_clean (reached.End arc n) = ended_clean n (ended_of arc)
-by_clean (reached.Refused k n) = refused_clean k n
+-- What is refused has no figures, by the type of an answer.
+clean : (a : Answering) → (refusal_of a ≡ 0) ⊎ (results_of a ≡ no_results)
+clean (Ok a) = inl refl
+clean (Err r) = inr refl
 
 pub zeros_or_answer : ZerosOrAnswer
-unfolding propagate_by
-zeros_or_answer pt pr words = by_clean (reached_words_by pt (searching pr) words)
+zeros_or_answer pt pr words = clean (propagate_by pt pr words)
 
 -- With the lent run beside it.
-abbrev Kept : Answer → (run after : List ℕ) → Type 0
-Kept a run after = (a.refusal ≡ 0) ⊎ ((a.results ≡ no_results) × (after ≡ run))
+abbrev Kept : Answering → (run after : List ℕ) → Type 0
+Kept a run after = (refusal_of a ≡ 0) ⊎ ((results_of a ≡ no_results) × (after ≡ run))
 
-refused_kept : (k n : ℕ) (run : List ℕ) → Kept (refused k n) run run
-unfolding refused
-refused_kept k n run = inr (refl, refl)
+written_kept : (w : Result (Unit {0}) Refusal) (arc : Arc) (n : ℕ) (r : Results) (run : List ℕ) → Kept (written n r w) run (lent_by_result w arc run)
+written_kept (Ok u) arc n r run = inl refl
+written_kept (Err k) arc n r run = inr (refl, refl)
 
-pick_kept : (t : Bool) (k n : ℕ) (r : Results) (run words : List ℕ) → Kept (pick (not t) (refused k n) (answered n r)) run (pick t words run)
-unfolding answered
-pick_kept true k n r run words = inl refl
-pick_kept false k n r run words = refused_kept k n run
-
-with_kept : (arc : Arc) (n : ℕ) (r : Results) (run : List ℕ) → Kept (with_partials arc n r run) run (lent_after arc run)
+ended_kept : (arc : Arc) (n : ℕ) (e : Result Results Refusal) (run : List ℕ) → Kept (ended_with arc n e run) run (lent_ended arc e run)
 unfolding with_partials lent_after
-with_kept arc n r run = pick_kept (eqb (partials_refusal arc run) 0) (partials_refusal arc run) n r run (words_of (entries_of arc))
+ended_kept arc n (Ok r) run = written_kept (partials_refusal arc run) arc n r run
+ended_kept arc n (Err k) run = inr (refl, refl)
 
-ended_kept : (arc : Arc) (n : ℕ) (e : Ended) (run : List ℕ) → Kept (ended_with arc n e run) run (lent_ended arc e run)
-ended_kept arc n (ended.Results r) run = with_kept _ n r run
-ended_kept arc n (ended.Refused k) run = refused_kept _ n run
+by_kept : (x : Reaching) (run : List ℕ) → Kept (partials_from x run) run (lent_from x run)
+by_kept (Ok x) run = ended_kept x.arc x.points (ended_of x.arc) run
+by_kept (Err r) run = inr (refl, refl)
 
-by_kept : (x : Reached) (run : List ℕ) → Kept (partials_from x run) run (lent_from x run)
-by_kept (reached.End arc n) run = ended_kept arc n (ended_of arc) run
-by_kept (reached.Refused k n) run = refused_kept k n run
-
-length-kept : (t : Bool) (x : Reached) (run : List ℕ) → Kept (pick t (refused 1 0) (partials_from x run)) run (pick t run (lent_from x run))
-length-kept true x run = refused_kept 1 0 run
+length-kept : (t : Bool) (x : Reaching) (run : List ℕ) → Kept (pick t (refused PartialsLength 0) (partials_from x run)) run (pick t run (lent_from x run))
+length-kept true x run = inr (refl, refl)
 length-kept false x run = by_kept x run
 
 pub unchanged_or_answer : UnchangedOrAnswer
@@ -122,8 +94,8 @@ unfolding reached_words_by reached_orbit_by reached_from_by reached_over_by
 leads pt find words s e =
     let start = s.start in
     let d = interval_in s in
-    ap (reached_read_by pt find) s.reads ∙ ap (λ (b : Begun). reached_begun_by pt find b s.whole) s.begins
-    ∙ ap (λ (t : Bool). pick (not t) (reached.Refused 4 0) (reached_found start d (find start.initial d.searched (first_step_of start.initial d.searched)))) s.steps
+    ap (reached_read_by pt find) s.reads ∙ ap (λ (b : Result Begun Refusal). reached_begun_by pt find b s.whole) s.begins
+    ∙ ap (λ (t : Bool). pick (not t) (refused StartNotFinite 0) (reached_found start d (find start.initial d.searched (first_step_of start.initial d.searched)))) s.steps
     ∙ ap (reached_found start d) e
 
 pub reaches : (pt : Parting) (pr : Proposing) (words : List ℕ) (s : Searches pt words) {x : Finding} →
@@ -131,48 +103,48 @@ pub reaches : (pt : Parting) (pr : Proposing) (words : List ℕ) (s : Searches p
 reaches pt pr words s e = leads pt (searching pr) words s e
 
 -- The results of an arc, or 7 or 8.
-abbrev pub SevenOrEight : Ended → Results → Type 0
-SevenOrEight e r = (e ≡ ended.Results r) ⊎ ((e ≡ ended.Refused 7) ⊎ (e ≡ ended.Refused 8))
+abbrev pub SevenOrEight : Result Results Refusal → Results → Type 0
+SevenOrEight e r = (e ≡ Ok r) ⊎ ((e ≡ Err RadiusNotPositive) ⊎ (e ≡ Err EndNotFinite))
 
 -- The same of an answer.
-abbrev pub Settled : Answer → ℕ → Results → Type 0
-Settled a n r = (a ≡ answered n r) ⊎ ((a ≡ refused 7 n) ⊎ (a ≡ refused 8 n))
+abbrev pub Settled : Answering → ℕ → Results → Type 0
+Settled a n r = (a ≡ answered n r) ⊎ ((a ≡ refused RadiusNotPositive n) ⊎ (a ≡ refused EndNotFinite n))
 
 -- What an end leads to, without partials
-module _ (n : ℕ) (e : Ended) where
-  refuses : (k : ℕ) → e ≡ ended.Refused k → ended_answer n e ≡ refused k n
+module _ (n : ℕ) (e : Result Results Refusal) where
+  refuses : (k : Refusal) → e ≡ Err k → ended_answer n e ≡ refused k n
   unfolding ended_answer
   refuses k p = ap (ended_answer n) p
 
-  answers : (r : Results) → e ≡ ended.Results r → ended_answer n e ≡ answered n r
+  answers : (r : Results) → e ≡ Ok r → ended_answer n e ≡ answered n r
   unfolding ended_answer
   answers r p = ap (ended_answer n) p
 
 -- and with them: by the partials of this arc.
 module _ (arc : Arc) (n : ℕ) (run : List ℕ) where
-  by_partials : (r : Results) (k : ℕ) → partials_refusal arc run ≡ k → 0 < k → (with_partials arc n r run ≡ refused k n) × (lent_after arc run ≡ run)
+  by_partials : (r : Results) (k : Refusal) → partials_refusal arc run ≡ Err k → (with_partials arc n r run ≡ refused k n) × (lent_after arc run ≡ run)
   unfolding with_partials lent_after
-  by_partials r k z h = let t : eqb k 0 ≡ false = ne_eqb k 0 (λ q. omega arith) in (rw (z, t), rw (z, t))
+  by_partials r k z = (rw z, rw z)
 
-  with_them : (r : Results) → partials_refusal arc run ≡ 0 → (with_partials arc n r run ≡ answered n r) × (lent_after arc run ≡ words_of (entries_of arc))
+  with_them : (r : Results) → partials_refusal arc run ≡ Ok tt → (with_partials arc n r run ≡ answered n r) × (lent_after arc run ≡ words_of (entries_of arc))
   unfolding with_partials lent_after
   with_them r z = (rw z, rw z)
 
-module _ (arc : Arc) (n : ℕ) (e : Ended) (run : List ℕ) where
+module _ (arc : Arc) (n : ℕ) (e : Result Results Refusal) (run : List ℕ) where
   -- Both, the answer and the lent run.
-  abbrev Leads : Answer → List ℕ → Type 0
+  abbrev Leads : Answering → List ℕ → Type 0
   Leads a after = (ended_with arc n e run ≡ a) × (lent_ended arc e run ≡ after)
 
-  at_end : {x : Ended} → e ≡ x → Leads (ended_with arc n x run) (lent_ended arc x run)
-  at_end p = (ap (λ (y : Ended). ended_with arc n y run) p, ap (λ (y : Ended). lent_ended arc y run) p)
+  at_end : {x : Result Results Refusal} → e ≡ x → Leads (ended_with arc n x run) (lent_ended arc x run)
+  at_end p = (ap (λ (y : Result Results Refusal). ended_with arc n y run) p, ap (λ (y : Result Results Refusal). lent_ended arc y run) p)
 
-  refuses_with : (k : ℕ) → e ≡ ended.Refused k → Leads (refused k n) run
+  refuses_with : (k : Refusal) → e ≡ Err k → Leads (refused k n) run
   refuses_with k p = at_end p
 
-  partials_refuse : (r : Results) (k : ℕ) → e ≡ ended.Results r → partials_refusal arc run ≡ k → 0 < k → Leads (refused k n) run
-  partials_refuse r k p z h = let w = by_partials arc n run r k z h in ((at_end p).0 ∙ w.0, (at_end p).1 ∙ w.1)
+  partials_refuse : (r : Results) (k : Refusal) → e ≡ Ok r → partials_refusal arc run ≡ Err k → Leads (refused k n) run
+  partials_refuse r k p z = let w = by_partials arc n run r k z in ((at_end p).0 ∙ w.0, (at_end p).1 ∙ w.1)
 
-  answers_with : (r : Results) → e ≡ ended.Results r → partials_refusal arc run ≡ 0 → Leads (answered n r) (words_of (entries_of arc))
+  answers_with : (r : Results) → e ≡ Ok r → partials_refusal arc run ≡ Ok tt → Leads (answered n r) (words_of (entries_of arc))
   answers_with r p z = let w = with_them arc n run r z in ((at_end p).0 ∙ w.0, (at_end p).1 ∙ w.1)
 
 ends_with : (arc : Arc) (n : ℕ) → EndsWith arc n (ended_answer n (ended_of arc))
@@ -186,41 +158,39 @@ ends_with_partials arc n run =
       answers = answers_with arc n (ended_of arc) run;
     }
 
-pub settled : (n : ℕ) (e : Ended) (r : Results) → SevenOrEight e r → Settled (ended_answer n e) n r
+pub settled : (n : ℕ) (e : Result Results Refusal) (r : Results) → SevenOrEight e r → Settled (ended_answer n e) n r
 settled n e r (inl p) = inl (answers n e r p)
-settled n e r (inr (inl p)) = inr (inl (refuses n e 7 p))
-settled n e r (inr (inr p)) = inr (inr (refuses n e 8 p))
+settled n e r (inr (inl p)) = inr (inl (refuses n e RadiusNotPositive p))
+settled n e r (inr (inr p)) = inr (inr (refuses n e EndNotFinite p))
 
-pub settled_with : (arc : Arc) (n : ℕ) (e : Ended) (r : Results) (run : List ℕ) → length run ≡ 36 → SevenOrEight e r → Settled (ended_with arc n e run) n r
+pub settled_with : (arc : Arc) (n : ℕ) (e : Result Results Refusal) (r : Results) (run : List ℕ) → length run ≡ 36 → SevenOrEight e r → Settled (ended_with arc n e run) n r
 settled_with arc n e r run h (inl p) =
-    ⊎_elim (λ z. inl (answers_with arc n e run r p z).0) (λ z. inr (inr (partials_refuse arc n e run r 8 p z (omega arith)).0)) (zero_or_eight arc run h)
-settled_with arc n e r run h (inr (inl p)) = inr (inl (refuses_with arc n e run 7 p).0)
-settled_with arc n e r run h (inr (inr p)) = inr (inr (refuses_with arc n e run 8 p).0)
+    ⊎_elim (λ z. inl (answers_with arc n e run r p z).0) (λ z. inr (inr (partials_refuse arc n e run r EndNotFinite p z).0)) (zero_or_eight arc run h)
+settled_with arc n e r run h (inr (inl p)) = inr (inl (refuses_with arc n e run RadiusNotPositive p).0)
+settled_with arc n e r run h (inr (inr p)) = inr (inr (refuses_with arc n e run EndNotFinite p).0)
 
-pub psi_of_lem : (s : Start) (d : Interval) (psi : Anomaly) → (results_of (arc_of s d psi)).psi ≡ psi
-unfolding results_of arc_of
+pub psi_of_lem : (s : Start) (d : Interval) (psi : Anomaly) → (arcs.results_of (arc_of s d psi)).psi ≡ psi
+unfolding arcs.results_of arc_of
 psi_of_lem s d psi = refl
 
 -- A settled answer reports the points, and its ψ is that of the results.
-settled_points : (a : Answer) (n : ℕ) (r : Results) → Settled a n r → a.points ≡ n
-unfolding answered refused
-settled_points a n r (inl e) = ap (λ (x : Answer). x.points) e
-settled_points a n r (inr (inl e)) = ap (λ (x : Answer). x.points) e
-settled_points a n r (inr (inr e)) = ap (λ (x : Answer). x.points) e
+settled_points : (a : Answering) (n : ℕ) (r : Results) → Settled a n r → points_of a ≡ n
+settled_points a n r (inl e) = ap points_of e
+settled_points a n r (inr (inl e)) = ap points_of e
+settled_points a n r (inr (inr e)) = ap points_of e
 
-settled_psi : (a : Answer) (n : ℕ) (r : Results) → Settled a n r → a.refusal ≡ 0 → a.results.psi ≡ r.psi
-unfolding answered refused
-settled_psi a n r (inl e) z = ap (λ (x : Answer). x.results.psi) e
-settled_psi a n r (inr (inl e)) z = absurd (omega (arith, ap (λ (x : Answer). x.refusal) e))
-settled_psi a n r (inr (inr e)) z = absurd (omega (arith, ap (λ (x : Answer). x.refusal) e))
+settled_psi : (a : Answering) (n : ℕ) (r : Results) → Settled a n r → refusal_of a ≡ 0 → (results_of a).psi ≡ r.psi
+settled_psi a n r (inl e) z = ap (λ (x : Answering). (results_of x).psi) e
+settled_psi a n r (inr (inl e)) z = absurd (omega (arith, ap refusal_of e))
+settled_psi a n r (inr (inr e)) z = absurd (omega (arith, ap refusal_of e))
 
 module _ (pr : Proposing) (s : Start) (d : Interval) where
-  reports : {f : Finding} {a : Answer} (Ends : Ending) (g : Demand3 (pr s.initial d.searched) s.initial d.searched (first_step_of s.initial d.searched) f) →
+  reports : {f : Finding} {a : Answering} (Ends : Ending) (g : Demand3 (pr s.initial d.searched) s.initial d.searched (first_step_of s.initial d.searched) f) →
       let arc = arc_of s d (anomaly_at d.searched g.place) in
-      Settled a g.points (results_of arc) → Ends arc g.points a → Reports pr s d Ends a
+      Settled a g.points (arcs.results_of arc) → Ends arc g.points a → Reports pr s d Ends a
   reports {a = a} Ends g so ends =
       let psi = anomaly_at d.searched g.place in
-      let r = results_of (arc_of s d psi) in
+      let r = arcs.results_of (arc_of s d psi) in
       record {
         at = record { place = g.place; points = g.points; anomaly = g.anomaly; used = g.used; at_most = g.at_most; answer = so; ends = ends };
         reported = settled_points a g.points r so;
@@ -236,36 +206,32 @@ finds_anomaly pt pr words s nonzero findable =
     let arc = arc_of s.start (interval_in s) (anomaly_at tau g.place) in
     let n = g.points in
     let e = seven_or_eight arc in
-    let x : reached_words_by pt (searching pr) words ≡ reached.End arc n = reaches pt pr words s g.found in (
-      reports pr s.start (interval_in s) EndsWith g (rw x (settled n (ended_of arc) (results_of arc) e)) (rw x (ends_with arc n)),
+    let x : reached_words_by pt (searching pr) words ≡ Ok (record { arc = arc; points = n }) = reaches pt pr words s g.found in (
+      reports pr s.start (interval_in s) EndsWith g (rw x (settled n (ended_of arc) (arcs.results_of arc) e)) (rw x (ends_with arc n)),
       λ run h.
           let t = eq-eqb (length run) 36 h in
           reports pr s.start (interval_in s) (EndsWithPartials run (lent_by pt pr words run)) g
-          (rw (t, x) (settled_with arc n (ended_of arc) (results_of arc) run h e))
+          (rw (t, x) (settled_with arc n (ended_of arc) (arcs.results_of arc) run h e))
           (rw (t, x) (ends_with_partials arc n run)),
     )
 
 -- ---- The points of both calls are those of the search, however they end.
-refused_points : (k n : ℕ) → (refused k n).points ≡ n
-unfolding refused
-refused_points k n = refl
-
 module _ (s : Start) (d : Interval) where
-  found_points : (x : Finding) → (answer_from (reached_found s d x)).points ≡ used_in x
+  found_points : (x : Finding) → points_of (answer_from (reached_found s d x)) ≡ used_in x
   unfolding reached_found
-  found_points (finding.Found psi n) =
-      let arc = arc_of s d psi in
-      settled_points (ended_answer n (ended_of arc)) n (results_of arc) (settled n (ended_of arc) (results_of arc) (seven_or_eight arc))
-  found_points (finding.AllShort n) = refused_points 5 n
-  found_points (finding.Unreadable n) = refused_points 6 n
+  found_points (Ok f) =
+      let arc = arc_of s d f.psi in
+      let r = arcs.results_of arc in
+      settled_points (ended_answer f.points (ended_of arc)) f.points r (settled f.points (ended_of arc) r (seven_or_eight arc))
+  found_points (Err r) = refl
 
-  found_with_points : (x : Finding) (run : List ℕ) → length run ≡ 36 → (partials_from (reached_found s d x) run).points ≡ used_in x
+  found_with_points : (x : Finding) (run : List ℕ) → length run ≡ 36 → points_of (partials_from (reached_found s d x) run) ≡ used_in x
   unfolding reached_found
-  found_with_points (finding.Found psi n) run h =
-      let arc = arc_of s d psi in
-      settled_points (ended_with arc n (ended_of arc) run) n (results_of arc) (settled_with arc n (ended_of arc) (results_of arc) run h (seven_or_eight arc))
-  found_with_points (finding.AllShort n) run h = refused_points 5 n
-  found_with_points (finding.Unreadable n) run h = refused_points 6 n
+  found_with_points (Ok f) run h =
+      let arc = arc_of s d f.psi in
+      let r = arcs.results_of arc in
+      settled_points (ended_with arc f.points (ended_of arc) run) f.points r (settled_with arc f.points (ended_of arc) r run h (seven_or_eight arc))
+  found_with_points (Err r) run h = refl
 
 pub counts_points : CountsPoints
 unfolding propagate_by partials_by
@@ -276,8 +242,8 @@ counts_points pt pr words s nonzero =
     let x = found_by pr i tau in
     let e : reached_words_by pt (searching pr) words ≡ reached_found s.start d x = reaches pt pr words s refl in
     let counted = ((promise_by (pr i tau) i tau (first_step_of i tau)).interval nonzero).counts in (
-      ap (λ (r : Reached). (answer_from r).points) e ∙ found_points s.start d x ∙ counted,
-      λ run h. rw (eq-eqb (length run) 36 h) (ap (λ (r : Reached). (partials_from r run).points) e ∙ found_with_points s.start d x run h ∙ counted),
+      ap (λ (r : Reaching). points_of (answer_from r)) e ∙ found_points s.start d x ∙ counted,
+      λ run h. rw (eq-eqb (length run) 36 h) (ap (λ (r : Reaching). points_of (partials_from r run)) e ∙ found_with_points s.start d x run h ∙ counted),
     )
 
 -- ---- T-04
@@ -290,9 +256,9 @@ nothing_searched pt pr words s zero =
     let i = s.start.initial in
     let psi : Anomaly = record { 0 = n0 } in
     let arc = arc_of s.start (interval_in s) psi in
-    let r = results_of arc in
-    let x : reached_words_by pt (searching pr) words ≡ reached.End arc 0 = reaches pt pr words s ((promise_by (pr i tau) i tau (first_step_of i tau)).no_interval zero) in
-    let at_once : (a : Answer) → Settled a 0 r → AtOnce a =
+    let r = arcs.results_of arc in
+    let x : reached_words_by pt (searching pr) words ≡ Ok (record { arc = arc; points = 0 }) = reaches pt pr words s ((promise_by (pr i tau) i tau (first_step_of i tau)).no_interval zero) in
+    let at_once : (a : Answering) → Settled a 0 r → AtOnce a =
     λ a so. (settled_points a 0 r so, λ z. settled_psi a 0 r so z ∙ psi_of_lem s.start (interval_in s) psi) in (
       at_once (propagate_by pt pr words) (rw x (settled 0 (ended_of arc) r (seven_or_eight arc))),
       λ run h. at_once (partials_by pt pr words run) (rw (eq-eqb (length run) 36 h, x) (settled_with arc 0 (ended_of arc) r run h (seven_or_eight arc))),
@@ -315,18 +281,20 @@ searches_finite pt words s = beyond_step s.start.initial (searched_in s).0 s.ste
 
 -- Where nothing comes off, to take revolutions off is to take nothing off.
 module _ (find : Finder) where
-  from_begun : (b : Begun) (whole : WholeInterval) → ((s : Start) (c : Course) → b ≡ begun.Start s c → (interval_of c whole).off ≡ off.Nothing)
+  from_begun : (b : Result Begun Refusal) (whole : WholeInterval)
+      → ((s : Start) (c : Option Revolution) → b ≡ Ok (record { start = s; course = c }) → (interval_of c whole).off ≡ None)
       → reached_begun_by interval_of find b whole ≡ reached_begun_by wholly find b whole
   unfolding reached_from_by
-  from_begun (begun.Refused n) whole none = refl
-  from_begun (begun.Start s c) whole none = ap (reached_over_by find s) (nothing_off c whole (none s c refl))
+  from_begun (Err r) whole none = refl
+  from_begun (Ok b) whole none = ap (reached_over_by find b.start) (nothing_off b.course whole (none b.start b.course refl))
 
-  from_read : (r : Read)
-      → ((o : Orbit) (whole : WholeInterval) (s : Start) (c : Course) → r ≡ read.Orbit o whole → begun_of o ≡ begun.Start s c → (interval_of c whole).off ≡ off.Nothing)
+  from_read : (r : Result Given Refusal)
+      → ((o : Orbit) (whole : WholeInterval) (s : Start) (c : Option Revolution) →
+      r ≡ Ok (record { orbit = o; whole = whole }) → begun_of o ≡ Ok (record { start = s; course = c }) → (interval_of c whole).off ≡ None)
       → reached_read_by interval_of find r ≡ reached_read_by wholly find r
   unfolding reached_orbit_by
-  from_read (read.Refused n) none = refl
-  from_read (read.Orbit o whole) none = from_begun (begun_of o) whole (λ s c e. none o whole s c refl e)
+  from_read (Err r) none = refl
+  from_read (Ok g) none = from_begun (begun_of g.orbit) g.whole (λ s c e. none g.orbit g.whole s c refl e)
 
 pub else_01_stands : Else01Stands
 unfolding reached_words_by propagate_by partials_by lent_by
@@ -334,7 +302,7 @@ else_01_stands pr words none =
     let e = from_read (searching pr) (read_of words) none in (
       ap answer_from e,
       λ run. (
-        ap (λ (x : Reached). pick (not (eqb (length run) 36)) (refused 1 0) (partials_from x run)) e,
-        ap (λ (x : Reached). pick (not (eqb (length run) 36)) run (lent_from x run)) e,
+        ap (λ (x : Reaching). pick (not (eqb (length run) 36)) (refused PartialsLength 0) (partials_from x run)) e,
+        ap (λ (x : Reaching). pick (not (eqb (length run) 36)) run (lent_from x run)) e,
       ),
     )

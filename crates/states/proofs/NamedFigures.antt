@@ -1,18 +1,30 @@
 -- T-05: both calls give the first figure that is NaN or infinite by its number, and no other input such a number.
-use mathlib.Core.Path.{◌≡◌, refl, sym, ap, subst}
+use mathlib.Core.Path.{◌≡◌, refl, sym, ◌∙◌, ap, subst}
 use mathlib.Core.Logic.{◌⊎◌, inl, inr, ⊎_elim}
 use mathlib.Core.Bool.{Bool, true, false, not}
 use mathlib.Core.List.{List}
-use Prim.Native.Nat.{ℕ, ◌<◌, ◌≤◌}
+use Prim.Native.Nat.{ℕ, ◌+◌, ◌<◌, ◌≤◌}
 use native.Mathlib.Omega.{arith}
 use borrow.Author.Tests.{eq-eqb, ne_eqb}
 use lib.ListN.{length}
+use lib.Ieee.{eq}
+use Rattle.std.specs.Prelude.{Result, Ok, Err}
 use Rattle.bits.specs.Choice.{pick}
 use Rattle.bits.specs.Arithmetic.{is_finite}
 use Rattle.bits.specs.Runs.{first_of}
 use Rattle.bits.specs.declared.runs.Sought.TheVariants.{NotFinite}
-use Rattle.search.specs.declared.figures.Finding.{Finding}
-use Rattle.search.specs.declared.figures.Finding.TheVariants as finding
+use Rattle.bits.specs.Arithmetic.{n0}
+use Rattle.bits.specs.Words.{place_of}
+use Rattle.bits.specs.Refusal.{number_of}
+use Rattle.bits.specs.declared.refusal.Refusal.{Refusal}
+use Rattle.bits.specs.declared.refusal.Refusal.TheVariants.{StartNotFinite}
+use Rattle.bits.specs.declared.refusal.Refusal.TheVariants as reason
+use Rattle.series.specs.declared.figures.Seconds.{Seconds}
+use Rattle.search_points.specs.declared.figures.Initial.{Initial}
+use Rattle.search_rule.specs.Rule.{Proposal}
+use Rattle.search.specs.Search.{Finding, Proposing}
+use Rattle.search.specs.SearchPromise.{SaysRefused, Says, Promise}
+use Rattle.search.proofs.Instance.{promise_by}
 use Rattle.states_revolutions.specs.declared.figures.WholeInterval.{WholeInterval}
 use Rattle.states_revolutions.specs.declared.figures.Interval.{Interval}
 use Rattle.states_arcs.specs.Results.{results_of, ended_of}
@@ -22,92 +34,108 @@ use Rattle.states_start.specs.Given.{double_at, figure_refusal, read_of, FirstBa
 use Rattle.states_start.specs.Initial.{begun_of, first_step_of}
 use Rattle.states_start.specs.declared.figures.Orbit.{Orbit}
 use Rattle.states_start.specs.declared.figures.Start.{Start}
-use Rattle.states_start.specs.declared.figures.Read.{Read}
-use Rattle.states_start.specs.declared.figures.Read.TheVariants as read
+use Rattle.states_start.specs.declared.figures.Given.{Given}
 use Rattle.states_start.specs.declared.figures.Begun.{Begun}
-use Rattle.states_start.specs.declared.figures.Begun.TheVariants as begun
-use Rattle.states_start.proofs.StartLaws.{names_first, first_bad, refused_first, FiniteBefore, first_at, three_or_four}
-use Rattle.states.specs.Call.{Finder, searching, Parting, refused, answered, orbit_words, reached_found, reached_over_by, reached_from_by, reached_begun_by, reached_orbit_by, reached_read_by, reached_words_by, answer_from, propagate_by}
+use Rattle.states_start.proofs.StartLaws.{names_first, first_bad, refused_first, figure_number, FiniteBefore, first_at, three_or_four}
+use Rattle.states.specs.Call.{searching, Parting, Reaching, Answering, refused, refusal_of, orbit_words, reached_found, reached_over_by, reached_from_by, reached_begun_by, reached_orbit_by, reached_read_by, reached_words_by, answer_from, propagate_by}
 use Rattle.states.specs.WithPartials.{partials_from, partials_by}
 use Rattle.states.specs.CallPromise.{NamesBad, NamesFigure, ByName, CallsName}
-use Rattle.states.specs.declared.figures.Reached.{Reached}
-use Rattle.states.specs.declared.figures.Reached.TheVariants as reached
-use Rattle.states.specs.declared.figures.Answer.{Answer}
 use Rattle.states.proofs.CallPromise.{Settled, settled, settled_with}
 
 -- ---- The numbers that a call of eight finite words can give: 0, or 3 to 8.
 abbrev Other : ℕ → Type 0
 Other n = (n ≡ 0) ⊎ ((3 ≤ n) × (n ≤ 8))
 
-abbrev OtherIn : Reached → Type 0
-OtherIn (reached.Refused k n) = Other k
-OtherIn (reached.End arc n) = Unit {0}
+abbrev OtherIn : Reaching → Type 0
+OtherIn (Err r) = Other (number_of r.refusal)
+OtherIn (Ok x) = Unit {0}
 
-module _ (s : Start) (d : Interval) where
-  found_other : (x : Finding) → OtherIn (reached_found s d x)
+-- A search is refused by 5 or 6,
+said_other : (pr : Proposal) (i : Initial) (tau : Seconds) (first : ℕ) (k : Refusal) → SaysRefused pr i tau first k → Other (number_of k)
+said_other pr i tau first reason.AllShort s = inr (omega arith, omega arith)
+said_other pr i tau first reason.Unreadable s = inr (omega arith, omega arith)
+said_other pr i tau first _ s = absurd s
+
+abbrev OtherFound : Finding → Type 0
+OtherFound (Err r) = Other (number_of r.refusal)
+OtherFound (Ok f) = Unit {0}
+
+search_other : (pr : Proposing) (i : Initial) (tau : Seconds) → OtherFound (searching pr i tau (first_step_of i tau))
+search_other pr i tau = go (eq tau.0 n0) refl
+  where
+    promise : Promise (pr i tau) i tau (first_step_of i tau) (searching pr i tau (first_step_of i tau))
+    promise = promise_by (pr i tau) i tau (first_step_of i tau)
+
+    said : (f : Finding) → Says (pr i tau) i tau (place_of (first_step_of i tau).0) f → OtherFound f
+    said (Ok f) x = tt
+    said (Err r) x = said_other (pr i tau) i tau (place_of (first_step_of i tau).0) r.refusal x
+
+    go : (zero : Bool) → eq tau.0 n0 ≡ zero → OtherFound (searching pr i tau (first_step_of i tau))
+    go true z = subst OtherFound (sym (promise.no_interval z)) tt
+    go false z = said _ (promise.interval z).says
+
+module _ (pr : Proposing) (s : Start) (d : Interval) where
+  found_other : (x : Finding) → OtherFound x → OtherIn (reached_found s d x)
   unfolding reached_found
-  found_other (finding.Found psi n) = tt
-  found_other (finding.AllShort n) = inr (omega arith, omega arith)
-  found_other (finding.Unreadable n) = inr (omega arith, omega arith)
+  found_other (Ok f) h = tt
+  found_other (Err r) h = h
 
-  over_other : (find : Finder) → OtherIn (reached_over_by find s d)
+  over_other : OtherIn (reached_over_by (searching pr) s d)
   unfolding reached_over_by
-  over_other find = go (not (is_finite (first_step_of s.initial d.searched).0)) _ (found_other _)
+  over_other = go (not (is_finite (first_step_of s.initial d.searched).0)) _ (found_other _ (search_other pr s.initial d.searched))
     where
-      go : (t : Bool) (x : Reached) → OtherIn x → OtherIn (pick t (reached.Refused 4 0) x)
+      go : (t : Bool) (x : Reaching) → OtherIn x → OtherIn (pick t (refused StartNotFinite 0) x)
       go true x h = inr (omega arith, omega arith)
       go false x h = h
 
-module _ (pt : Parting) (find : Finder) where
-  begun_other : (b : Begun) (whole : WholeInterval) → ((n : ℕ) → b ≡ begun.Refused n → (n ≡ 3) ⊎ (n ≡ 4)) → OtherIn (reached_begun_by pt find b whole)
+module _ (pt : Parting) (pr : Proposing) where
+  begun_other : (b : Result Begun Refusal) (whole : WholeInterval) → ((n : Refusal) → b ≡ Err n → (number_of n ≡ 3) ⊎ (number_of n ≡ 4))
+      → OtherIn (reached_begun_by pt (searching pr) b whole)
   unfolding reached_from_by
-  begun_other (begun.Start s c) whole h = over_other s (pt c whole) find
-  begun_other (begun.Refused n) whole h = ⊎_elim (λ e. inr (omega arith, omega arith)) (λ e. inr (omega arith, omega arith)) (h n refl)
+  begun_other (Ok b) whole h = over_other pr b.start (pt b.course whole)
+  begun_other (Err n) whole h = ⊎_elim (λ e. inr (omega arith, omega arith)) (λ e. inr (omega arith, omega arith)) (h n refl)
 
-  orbit_other : (o : Orbit) (whole : WholeInterval) → OtherIn (reached_orbit_by pt find o whole)
+  orbit_other : (o : Orbit) (whole : WholeInterval) → OtherIn (reached_orbit_by pt (searching pr) o whole)
   unfolding reached_orbit_by
   orbit_other o whole = begun_other (begun_of o) whole (three_or_four o)
 
-settled_other : (a : Answer) (n : ℕ) (r : Results) → Settled a n r → Other a.refusal
-unfolding answered refused
-settled_other a n r (inl e) = inl (ap (λ (x : Answer). x.refusal) e)
-settled_other a n r (inr (inl e)) = let k = ap (λ (x : Answer). x.refusal) e in inr (omega arith, omega arith)
-settled_other a n r (inr (inr e)) = let k = ap (λ (x : Answer). x.refusal) e in inr (omega arith, omega arith)
+settled_other : (a : Answering) (n : ℕ) (r : Results) → Settled a n r → Other (refusal_of a)
+settled_other a n r (inl e) = inl (ap refusal_of e)
+settled_other a n r (inr (inl e)) = let k = ap refusal_of e in inr (omega arith, omega arith)
+settled_other a n r (inr (inr e)) = let k = ap refusal_of e in inr (omega arith, omega arith)
 
-answer_other : (x : Reached) → OtherIn x → Other (answer_from x).refusal
-unfolding refused
-answer_other (reached.Refused k n) h = h
-answer_other (reached.End arc n) h = settled_other _ n (results_of arc) (settled n (ended_of arc) (results_of arc) (seven_or_eight arc))
+answer_other : (x : Reaching) → OtherIn x → Other (refusal_of (answer_from x))
+answer_other (Err r) h = h
+answer_other (Ok x) h = settled_other _ x.points (results_of x.arc) (settled x.points (ended_of x.arc) (results_of x.arc) (seven_or_eight x.arc))
 
-partials_other : (x : Reached) (run : List ℕ) → length run ≡ 36 → OtherIn x → Other (partials_from x run).refusal
-unfolding refused
-partials_other (reached.Refused k n) run l h = h
-partials_other (reached.End arc n) run l h = settled_other _ n (results_of arc) (settled_with arc n (ended_of arc) (results_of arc) run l (seven_or_eight arc))
+partials_other : (x : Reaching) (run : List ℕ) → length run ≡ 36 → OtherIn x → Other (refusal_of (partials_from x run))
+partials_other (Err r) run l h = h
+partials_other (Ok x) run l h =
+    settled_other _ x.points (results_of x.arc) (settled_with x.arc x.points (ended_of x.arc) (results_of x.arc) run l (seven_or_eight x.arc))
 
 -- ---- An answer that is a figure's refusal where the words are refused by it, and has one of the other numbers where they are not.
-module _ (words : List ℕ) (eight : length words ≡ 8) (a : Answer)
-    (by-figure : (n : ℕ) → read_of words ≡ read.Refused n → a ≡ refused n 0)
-    (by-orbit : (o : Orbit) (whole : WholeInterval) → read_of words ≡ read.Orbit o whole → Other a.refusal) where
+module _ (words : List ℕ) (eight : length words ≡ 8) (a : Answering)
+    (by-figure : (n : Refusal) → read_of words ≡ Err n → a ≡ refused n 0)
+    (by-orbit : (g : Given) → read_of words ≡ Ok g → Other (refusal_of a)) where
   first : ℕ
   first = first_of NotFinite words
 
   named : (k : ℕ) → FirstBad words k → a ≡ refused (figure_refusal k) 0
   named k f = by-figure (figure_refusal k) (names_first words eight k f)
 
-  number : (k : ℕ) → FirstBad words k → a.refusal ≡ figure_refusal k
-  unfolding refused
-  number k f = ap (λ (x : Answer). x.refusal) (named k f)
+  number : (k : ℕ) → FirstBad words k → refusal_of a ≡ 31 + k
+  number k f = ap refusal_of (named k f) ∙ figure_number k f.one_of_eight
 
   -- Either the first bad figure's number, or another.
-  either : FirstBad words first ⊎ Other a.refusal
+  either : FirstBad words first ⊎ Other (refusal_of a)
   unfolding first
   either = go (read_of words) refl
     where
-      go : (r : Read) → read_of words ≡ r → FirstBad words (first_of NotFinite words) ⊎ Other a.refusal
-      go (read.Refused n) e = inl (refused_first words eight n e).1
-      go (read.Orbit o whole) e = inr (by-orbit o whole e)
+      go : (r : Result Given Refusal) → read_of words ≡ r → FirstBad words (first_of NotFinite words) ⊎ Other (refusal_of a)
+      go (Err n) e = inl (refused_first words eight n e).1
+      go (Ok g) e = inr (by-orbit g e)
 
-  told : (k : ℕ) → k < 8 → a.refusal ≡ figure_refusal k → FirstBad words k
+  told : (k : ℕ) → k < 8 → refusal_of a ≡ 31 + k → FirstBad words k
   told k l e = ⊎_elim
       (λ f. let same : first ≡ k = omega (arith, number first f) in subst (FirstBad words) same f)
       (λ o. ⊎_elim (λ z. absurd (omega arith)) (λ z. absurd (omega (arith, z.0, z.1))) o)
@@ -117,6 +145,7 @@ module _ (words : List ℕ) (eight : length words ≡ 8) (a : Answer)
   names_bad =
       record {
         named = named;
+        numbered = number;
         told = told;
         refused_all = λ b. let f = first_bad words eight b in (omega (arith, number _ f), omega (arith, number _ f, f.one_of_eight));
         refused_only = λ l m. ⊎_elim
@@ -127,38 +156,37 @@ module _ (words : List ℕ) (eight : length words ≡ 8) (a : Answer)
       }
 
 -- ---- Both calls are such answers.
-module _ (pt : Parting) (find : Finder) (words : List ℕ) where
-  reached_figure : (n : ℕ) → read_of words ≡ read.Refused n → reached_words_by pt find words ≡ reached.Refused n 0
+module _ (pt : Parting) (pr : Proposing) (words : List ℕ) where
+  reached_figure : (n : Refusal) → read_of words ≡ Err n → reached_words_by pt (searching pr) words ≡ refused n 0
   unfolding reached_words_by
-  reached_figure n e = ap (reached_read_by pt find) e
+  reached_figure n e = ap (reached_read_by pt (searching pr)) e
 
-  reached_other : (o : Orbit) (whole : WholeInterval) → read_of words ≡ read.Orbit o whole → OtherIn (reached_words_by pt find words)
+  reached_other : (g : Given) → read_of words ≡ Ok g → OtherIn (reached_words_by pt (searching pr) words)
   unfolding reached_words_by
-  reached_other o whole e = subst OtherIn (sym (ap (reached_read_by pt find) e)) (orbit_other pt find o whole)
+  reached_other g e = subst OtherIn (sym (ap (reached_read_by pt (searching pr)) e)) (orbit_other pt pr g.orbit g.whole)
 
 pub names_figure : NamesFigure
 unfolding propagate_by partials_by
 names_figure pt pr words eight =
     let x = reached_words_by pt (searching pr) words in (
       names_bad words eight (propagate_by pt pr words)
-          (λ n e. ap answer_from (reached_figure pt (searching pr) words n e))
-          (λ o whole e. answer_other x (reached_other pt (searching pr) words o whole e)),
+          (λ n e. ap answer_from (reached_figure pt pr words n e))
+          (λ g e. answer_other x (reached_other pt pr words g e)),
       λ run h. names_bad words eight (partials_by pt pr words run)
-          (λ n e. rw (eq-eqb (length run) 36 h) (ap (λ (y : Reached). partials_from y run) (reached_figure pt (searching pr) words n e)))
-          (λ o whole e. rw (eq-eqb (length run) 36 h) (partials_other x run h (reached_other pt (searching pr) words o whole e))),
+          (λ n e. rw (eq-eqb (length run) 36 h) (ap (λ (y : Reaching). partials_from y run) (reached_figure pt pr words n e)))
+          (λ g e. rw (eq-eqb (length run) 36 h) (partials_other x run h (reached_other pt pr words g e))),
       λ run h. rw (ne_eqb (length run) 36 h),
     )
 
 -- ---- By name.
-module _ (mu x y z vx vy vz tau : ℕ) (a : Answer) (names : NamesBad (orbit_words mu x y z vx vy vz tau) a) where
+module _ (mu x y z vx vy vz tau : ℕ) (a : Answering) (names : NamesBad (orbit_words mu x y z vx vy vz tau) a) where
   abbrev eight : List ℕ
   eight = orbit_words mu x y z vx vy vz tau
 
-  numbered : (k : ℕ) → k < 8 → FiniteBefore k eight → is_finite (double_at eight k) ≡ false → a.refusal ≡ figure_refusal k
-  unfolding refused
-  numbered k l f b = ap (λ (r : Answer). r.refusal) (names.named k (first_at eight k l f b))
+  numbered : (k : ℕ) → k < 8 → FiniteBefore k eight → is_finite (double_at eight k) ≡ false → refusal_of a ≡ 31 + k
+  numbered k l f b = names.numbered k (first_at eight k l f b)
 
-  by_name : ByName mu x y z vx vy vz tau a.refusal
+  by_name : ByName mu x y z vx vy vz tau (refusal_of a)
   by_name =
       record {
         bad_mu = λ b. numbered 0 (omega arith) tt b;

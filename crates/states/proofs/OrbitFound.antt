@@ -7,6 +7,7 @@ use mathlib.Core.List.{List, [], ◌∷◌}
 use native.Mathlib.Omega.{arith}
 use lib.ListN.{length}
 use lib.Ieee.{binary64, add, sub, mul, div, neg, lt, eq, ne, of_int, of_bits, to_bits}
+use Rattle.std.specs.Prelude.{Option, Some}
 use Rattle.bits.specs.Arithmetic.{n0}
 use Rattle.bits.specs.Runs.{first_of, has}
 use Rattle.bits.specs.Root.{root_word_of, root_of}
@@ -26,8 +27,7 @@ use Rattle.search.specs.Search.{Proposing, history_at}
 use Rattle.states_revolutions.specs.Floor.{floor_of}
 use Rattle.states_revolutions.specs.Revolutions.{revolution_of, is_closed, is_usable, course_of, as_it_is, without_n, without_revolutions, interval_of}
 use Rattle.states_revolutions.specs.declared.figures.WholeInterval.{WholeInterval}
-use Rattle.states_revolutions.specs.declared.figures.Course.{Course}
-use Rattle.states_revolutions.specs.declared.figures.Course.TheVariants.{Closed}
+use Rattle.states_revolutions.specs.declared.figures.Revolution.{Revolution}
 use Rattle.states_start.specs.Given.{read_of}
 use Rattle.states_start.specs.Initial.{dot, begun_of, first_step_of}
 use Rattle.states_start.specs.declared.figures.Vector.{Vector}
@@ -58,8 +58,8 @@ abbrev start : Start
 start = record { state = orbit.state; initial = initial }
 
 -- P and Q, and what is left of the interval: from an independent program.
-abbrev course : Course
-course = Closed (record { period = record { 0 = of_bits binary64 0x4042759c3c081104 }; anomaly = record { 0 = of_bits binary64 0x4021ff78542176fe } })
+abbrev course : Option Revolution
+course = Some (record { period = record { 0 = of_bits binary64 0x4042759c3c081104 }; anomaly = record { 0 = of_bits binary64 0x4021ff78542176fe } })
 
 abbrev whole : WholeInterval
 whole = record { 0 = of_bits binary64 0x4067300000000000 }

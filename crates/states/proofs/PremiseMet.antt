@@ -5,7 +5,9 @@ use mathlib.Core.Path.{◌≡◌, refl, sym, ◌∙◌, ap, subst}
 use mathlib.Core.Bool.{true, false}
 use mathlib.Core.List.{List, [], ◌∷◌}
 use lib.Ieee.{binary64, add, sub, mul, div, neg, lt, eq, of_int, of_bits, to_bits}
+use Rattle.std.specs.Prelude.{Option, Some, None, Result, Ok, Err}
 use Rattle.bits.specs.Arithmetic.{n0}
+use Rattle.bits.specs.declared.refusal.Refusal.{Refusal}
 use Rattle.bits.specs.Runs.{first_of, has}
 use Rattle.bits.specs.Root.{root_word_of, root_of}
 use Rattle.search.specs.Search.{Proposing}
@@ -16,18 +18,14 @@ use Rattle.search_rule.specs.RulePromise.{Findable}
 use Rattle.states_revolutions.specs.Floor.{floor_of}
 use Rattle.states_revolutions.specs.Revolutions.{revolution_of, is_closed, is_usable, course_of, as_it_is, without_n, without_revolutions, interval_of}
 use Rattle.states_revolutions.specs.declared.figures.WholeInterval.{WholeInterval}
-use Rattle.states_revolutions.specs.declared.figures.Course.{Course}
-use Rattle.states_revolutions.specs.declared.figures.Course.TheVariants.{Open, Closed}
-use Rattle.states_revolutions.specs.declared.figures.Off.TheVariants.{Nothing}
+use Rattle.states_revolutions.specs.declared.figures.Revolution.{Revolution}
 use Rattle.states_start.specs.Given.{read_of}
 use Rattle.states_start.specs.Initial.{dot, begun_of, first_step_of}
 use Rattle.states_start.specs.declared.figures.Vector.{Vector}
 use Rattle.states_start.specs.declared.figures.Orbit.{Orbit}
 use Rattle.states_start.specs.declared.figures.Start.{Start}
-use Rattle.states_start.specs.declared.figures.Read.{Read}
-use Rattle.states_start.specs.declared.figures.Read.TheVariants as read
+use Rattle.states_start.specs.declared.figures.Given.{Given}
 use Rattle.states_start.specs.declared.figures.Begun.{Begun}
-use Rattle.states_start.specs.declared.figures.Begun.TheVariants as begun
 use Rattle.states.specs.Call.{propagate_by}
 use Rattle.states.specs.CallPromise.{Searches, searched_in, EndsWith, Reports, AtOnce, NoneComesOff, first_place}
 use Rattle.states.proofs.CallPromise.{finds_anomaly, nothing_searched}
@@ -50,7 +48,7 @@ whole = record { 0 = one_second.0 }
 
 pub p10_searches : Searches interval_of p10
 unfolding interval_of as_it_is is_closed course_of lt read_of first_of has dot begun_of first_step_of root_word_of root_of add sub mul div eq of_bits to_bits
-p10_searches = record { orbit = orbit; whole = whole; start = start; course = Open; reads = refl; begins = refl; steps = refl }
+p10_searches = record { orbit = orbit; whole = whole; start = start; course = None; reads = refl; begins = refl; steps = refl }
 
 first_place_lem : first_place start one_second ≡ place_of_h
 unfolding first_step_of mul div of_bits to_bits
@@ -65,27 +63,27 @@ unfolding p10_searches interval_of as_it_is
 p10_found pr = (finds_anomaly interval_of pr p10 p10_searches nonzero (subst (Findable (trial_at at_rest one_second)) (sym first_place_lem) findable)).0
 
 -- No revolution comes off P10: its orbit does not close.
-orbit_in : Read → Orbit
-orbit_in (read.Orbit o d) = o
-orbit_in (read.Refused n) = orbit
+orbit_in : Result Given Refusal → Orbit
+orbit_in (Ok g) = g.orbit
+orbit_in (Err r) = orbit
 
-course_in : Begun → Course
-course_in (begun.Start s c) = c
-course_in (begun.Refused n) = Open
+course_in : Result Begun Refusal → Option Revolution
+course_in (Ok b) = b.course
+course_in (Err r) = None
 
-p10_open : course_in (begun_of (orbit_in (read_of p10))) ≡ Open
+p10_open : course_in (begun_of (orbit_in (read_of p10))) ≡ None
 unfolding orbit_in course_in is_closed course_of lt read_of first_of has dot begun_of root_word_of root_of add sub mul div eq of_bits to_bits
 p10_open = refl
 
-nothing_of_open : (d : WholeInterval) → (interval_of Open d).off ≡ Nothing
+nothing_of_open : (d : WholeInterval) → (interval_of None d).off ≡ None
 unfolding interval_of as_it_is
 nothing_of_open d = refl
 
 pub p10_as_before : NoneComesOff p10
 unfolding orbit_in course_in
 p10_as_before o d s c reads begins =
-    let course : c ≡ Open = ap course_in (sym begins) ∙ ap (λ (x : Orbit). course_in (begun_of x)) (ap orbit_in (sym reads)) ∙ p10_open in
-    ap (λ (x : Course). (interval_of x d).off) course ∙ nothing_of_open d
+    let course : c ≡ None = ap course_in (sym begins) ∙ ap (λ (x : Orbit). course_in (begun_of x)) (ap orbit_in (sym reads)) ∙ p10_open in
+    ap (λ (x : Option Revolution). (interval_of x d).off) course ∙ nothing_of_open d
 
 -- Revolutions come off a circle, μ = 1, position (1,0,0), velocity (0,1,0), after three periods of 2·π; it searches, and what it searches is zero.
 abbrev pub circle : List ℕ
@@ -112,7 +110,7 @@ circle_searches =
       orbit = its_orbit;
       whole = record { 0 = of_bits binary64 0x4032d97c7f3321d2 };
       start = its_start;
-      course = Closed (record { period = record { 0 = of_bits binary64 0x401921fb54442d18 }; anomaly = record { 0 = of_bits binary64 0x401921fb54442d18 } });
+      course = Some (record { period = record { 0 = of_bits binary64 0x401921fb54442d18 }; anomaly = record { 0 = of_bits binary64 0x401921fb54442d18 } });
       reads = refl;
       begins = refl;
       steps = refl;

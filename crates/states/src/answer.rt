@@ -3,15 +3,23 @@ ghost use Rattle.std.specs.Prelude.{◌≡◌};
 ghost use Rattle.states.specs.Call.{answer_words};
 
 use super::figures::Answer;
+use search::Refused;
 
-// The fifteen words of an answer: refusal, points, position, velocity, end acceleration, start acceleration, psi. The first eleven are a result row.
-pub fn words_of(answer: Answer) -> [u64; 15]
+// The fifteen words of an answer: refusal, points, position, velocity, end acceleration, start acceleration, psi; of a refusal, its number and its points, and +0
+// for every figure. The first eleven are a result row.
+pub fn words_of(answer: Result<Answer, Refused>) -> [u64; 15]
     ensures { result ≡ answer_words answer }
 {
-    let figures = states_arcs::figures_of(answer.results);
     let mut words = [0; 15];
-    words[0] = answer.refusal;
-    words[1] = answer.points;
-    bits::copy_words(&figures, &mut words[2..]);
+    match answer {
+        Ok(answer) => {
+            words[1] = answer.points;
+            bits::copy_words(&states_arcs::figures_of(answer.results), &mut words[2..]);
+        }
+        Err(refused) => {
+            words[0] = refused.refusal.into();
+            words[1] = refused.points;
+        }
+    }
     words
 }

@@ -9,17 +9,16 @@ pub enum Seeking {
     Given(Anomaly),
 }
 
-// What is reached: the arc of the anomaly, with the points used; or a refusal's number with the points used so far.
+// What is reached: the arc of the anomaly, with the trial points used.
 #[derive(Clone, Copy)]
-pub enum Reached {
-    End(Arc, u64),
-    Refused(u64, u64),
+pub struct Reached {
+    pub arc: Arc,
+    pub points: u64,
 }
 
-// An answer: a refusal's number or 0, the trial points used, and the thirteen figures, all +0 where it is refused.
+// An answer: the trial points used, and the thirteen figures.
 #[derive(Clone, Copy)]
 pub struct Answer {
-    pub refusal: u64,
     pub points: u64,
     pub results: Results,
 }

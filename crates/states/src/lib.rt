@@ -10,3 +10,4 @@ pub use answer::words_of;
 pub use call::{propagate, reach};
 pub use figures::{Answer, Reached, Seeking};
 pub use partials::propagate_with_partials;
+pub use search::Refused;
