@@ -3,15 +3,15 @@
 #![tactic(auto)]
 
 ghost use Rattle.std.specs.Prelude.{◌≡◌, ◌<◌, ◌^◌};
-ghost use Rattle.search_points.specs.Trial.{trial_at};
-ghost use Rattle.search_rule.specs.Rule.{outward_step, counted, step_of};
+ghost use Rattle.search_rule.specs.Rule.{counted};
 ghost use Rattle.search.specs.Search.{outward_at, inward_at, finding_of, search_of};
 
 use bits::Refusal;
 use bits::words::FIELD;
-use search_points::{Initial, anomaly_at, try_at};
-use search_rule::{End, Next, Pair, Step, nearer_end, step_by};
+use search_points::{Initial, Passage, anomaly_at};
+use search_rule::{End, Next, Pair, nearer_end, step_by};
 use series::{Anomaly, Seconds};
+use std::ops::ControlFlow::{Break, Continue};
 
 pub mod figures;
 mod turn;
@@ -28,64 +28,53 @@ pub fn search(initial: Initial, tau: Seconds, h: Anomaly) -> Result<Found, Refus
             points: 0,
         });
     }
-    let next = outward(initial, tau, h.place());
+    let passage = Passage { initial, tau };
+    let next = outward(passage, h.place());
     match next {
-        Next::Between(pair, points) => finding_of(tau, inward(initial, tau, pair, points)),
+        Next::Between(pair, points) => finding_of(tau, inward(passage, pair, points)),
         _ => finding_of(tau, next),
     }
 }
 
-// Outward: the 41 places from the first on, a doubling apart, tried in order until one isn't short.
-fn outward(initial: Initial, tau: Seconds, first: u64) -> Next
+// Outward: the 41 places from the first on, a doubling apart, tried in order until one isn't short. Place 0 is short, with −τ for its error.
+fn outward(passage: Passage, first: u64) -> Next
     requires { first < 2 ^ 63 }
-    ensures { result ≡ counted 0 (outward_at initial tau first) }
+    ensures { result ≡ counted 0 (outward_at passage.initial passage.tau first) }
 {
     let mut short = End {
         place: 0,
-        error: -tau.0,
+        error: -passage.tau.0,
     };
-    let mut place = first;
-    let mut points: u64 = 0;
-    let mut left: u64 = 41;
-    while 0 < left {
-        let step = outward_step(initial, tau, short, place, points + 1);
+    for k in 0..41 {
+        let place = first + k * FIELD;
+        let step = step_by(short, place, passage.try_at(place), k + 1);
         match step {
-            Step::On(end) => {
+            Continue(end) => {
                 short = end;
             }
-            Step::Stop(next) => {
+            Break(next) => {
                 return next;
             }
         }
-        place += FIELD;
-        points += 1;
-        left -= 1;
     }
-    Next::AllShort(points)
-}
-
-// One outward point, tried after a short end; `points` counts it.
-fn outward_step(initial: Initial, tau: Seconds, short: End, place: u64, points: u64) -> Step
-    ensures { result ≡ step_of points (outward_step short place (trial_at initial tau place)) }
-{
-    step_by(short, place, try_at(initial, tau, place), points)
+    Next::AllShort(41)
 }
 
 // Inward: one point a turn, while the two places differ by more than 1. A proposed point is followed by the halving place, which ends the round.
-fn inward(initial: Initial, tau: Seconds, start: Pair, used: u64) -> Next
+fn inward(passage: Passage, start: Pair, used: u64) -> Next
     requires { used < 100 }
-    ensures { result ≡ counted used (inward_at initial tau start) }
+    ensures { result ≡ counted used (inward_at passage.initial passage.tau start) }
 {
     let mut pair = start;
     let mut points = used;
     let mut left: u64 = 63;
-    let mut offered: u64 = 0;
+    let mut offered: Option<u64> = None;
     while 0 < left {
         if !pair.is_wide() {
             return Next::Between(pair, points);
         }
-        offered = turn::offer(initial, tau, pair, offered);
-        let next = turn::tried(initial, tau, pair, offered, points);
+        offered = turn::offer(passage, pair, offered);
+        let next = turn::tried(passage, pair, offered, points);
         match next {
             Next::Between(closer, used) => {
                 pair = closer;

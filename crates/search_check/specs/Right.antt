@@ -1,6 +1,6 @@
 -- Document 02, T-06: "the anomaly is +0 for zero τ, or otherwise has the sign of τ and is exact, or is the answer T-01 picks from its adjacent pair". The
 -- anomaly is any word; τ is the interval that is searched: "T-04's reduction is made first".
-use Rattle.std.specs.Prelude.{ℕ, ◌%◌, ◌^◌, ◌≤◌, ◌<◌, ◌≡◌, Bool, true, false, ◌⊎◌, leb, ltb, eqb}
+use Rattle.std.specs.Prelude.{ℕ, ◌%◌, ◌^◌, ◌≤◌, ◌<◌, ◌≡◌, Bool, true, false, ◌⊎◌, eqb}
 use Rattle.std.specs.Float.{binary64}
 use Rattle.std.specs.Float.Ieee.{lt, eq, of_bits, to_bits}
 use Rattle.bits.specs.Choice.{pick}
@@ -9,15 +9,15 @@ use Rattle.bits.specs.Words.{infinity, minus_zero}
 use Rattle.series.specs.declared.figures.Anomaly.{Anomaly}
 use Rattle.series.specs.declared.figures.Seconds.{Seconds}
 use Rattle.search_points.specs.declared.figures.Initial.{Initial}
-use Rattle.search_points.specs.Trial.{anomaly_at, trial_at}
+use Rattle.search_points.specs.Trial.{anomaly_at, has_sign, trial_at}
 use Rattle.search_rule.specs.Rule.{Proposal}
 use Rattle.search_rule.specs.RulePromise.{IsAnomaly}
 use Rattle.search.specs.Search.{found_with, search_by}
 use Rattle.search_check.specs.Passing.{passes}
 
 -- "has the sign of τ": the sign bit of the word is set exactly where τ is below zero.
-unfoldable pub has_sign_of : Seconds → (word : ℕ) → Bool
-has_sign_of tau word = pick (lt tau.0 n0) (leb minus_zero word) (ltb word minus_zero)
+abbrev pub has_sign_of : Seconds → (word : ℕ) → Bool
+has_sign_of tau word = has_sign tau word
 
 -- "Its place is the bits of |ψ| read as a whole number", of a word.
 abbrev pub place_in : (word : ℕ) → ℕ

@@ -17,8 +17,9 @@ use Rattle.series.specs.declared.figures.Anomaly.{Anomaly}
 use Rattle.series.specs.declared.figures.FirstSums.{FirstSums}
 use Rattle.series.specs.declared.figures.Seconds.{Seconds}
 use Rattle.search_points.specs.declared.figures.Initial.{Initial}
-use Rattle.search_points.specs.declared.figures.Sort.TheVariants.{Short, Past, Exact, Unreadable}
+use Rattle.search_points.specs.declared.figures.Sort.TheVariants.{Short, Unreadable}
 use Rattle.search_points.specs.declared.figures.Trial.{Trial}
+use Rattle.search_points.specs.Meaning.{is_opposite}
 use Rattle.search_points.specs.Trial.{anomaly_at, sort_of, unevaluated, trial_of, evaluated_at, trial_at}
 
 -- ---- A word with its sign bit set is the negative of the word without it.
@@ -88,35 +89,21 @@ module _ (x : Float) where
   pub zero_same : eq x n0 ≡ true → ne x x ≡ false
   zero_same e = ⊎_elim same (λ z. absurd (true≢false (sym e ∙ z.2))) (nan_or_not x)
 
-  neither : lt n0 x ≡ false → lt x n0 ≡ false → eq x n0 ≡ false → ne x x ≡ true
-  neither g h e = ⊎_elim (λ n. absurd (true≢false (sym (by_zero n ∙ rw (g, h)) ∙ e))) (λ z. z.3) (nan_or_not x)
+-- A NaN is what is not equal to itself.
+pub nan_is : (x : Float) → ne x x ≡ is_nan x
+unfolding eq ne is_nan
+nan_is nan = refl
+nan_is (inf s) = same (inf s) refl
+nan_is (fin s m e) = same (fin s m e) refl
 
--- So the sort may be told by the two signs first.
-module _ (tau : Seconds) (x : Float) where
-  pub short_back : lt tau.0 n0 ≡ true → lt n0 x ≡ true → Short x ≡ sort_of tau x
-  unfolding sort_of
-  short_back b h = let f = above x h in simp (f.0, f.1, b, h)
-
-  pub past_back : lt tau.0 n0 ≡ true → lt n0 x ≡ false → lt x n0 ≡ true → Past x ≡ sort_of tau x
-  unfolding sort_of
-  past_back b g h = let f = under x h in simp (f.0, f.1, b, g)
-
-  pub short_on : lt tau.0 n0 ≡ false → lt x n0 ≡ true → Short x ≡ sort_of tau x
-  unfolding sort_of
-  short_on b h = let f = under x h in simp (f.0, f.1, b, h)
-
-  pub past_on : lt tau.0 n0 ≡ false → lt x n0 ≡ false → lt n0 x ≡ true → Past x ≡ sort_of tau x
-  unfolding sort_of
-  past_on b g h = let f = above x h in simp (f.0, f.1, b, g)
-
-  -- An error without a sign: exact, or unreadable. An infinite one has a sign.
-  pub unsigned : lt n0 x ≡ false → lt x n0 ≡ false → pick (eq x n0) Exact Unreadable ≡ sort_of tau x
-  unfolding sort_of
-  unsigned g h = by_test (eq x n0) refl
-    where
-      by_test : (b : Bool) → eq x n0 ≡ b → pick b Exact Unreadable ≡ sort_of tau x
-      by_test true e = simp (zero_same x e, e)
-      by_test false e = simp (neither x g h e)
+-- So an error with the sign opposite to tau, which is short, is told before the others.
+pub opposite_sort : (tau : Seconds) (x : Float) → is_opposite tau x ≡ true → sort_of tau x ≡ Short x
+unfolding sort_of
+opposite_sort tau x e = let f = signed (lt tau.0 n0) e in simp (f.0, f.1, e)
+  where
+    signed : (back : Bool) → pick back (lt n0 x) (lt x n0) ≡ true → (ne x x ≡ false) × (eq x n0 ≡ false)
+    signed true h = above x h
+    signed false h = under x h
 
 -- ---- The point of psi by what the parts of the code answer.
 module _ (i : Initial) (tau : Seconds) (psi : Anomaly) where

@@ -6,7 +6,7 @@ use Prim.Native.Nat.{ℕ, ◌≤◌, ◌<◌}
 use native.Mathlib.Omega.{arith}
 use borrow.Author.Tests.{eqb-true, leb-true, eq-eqb, ne_eqb, le-leb}
 use lib.Dec.{eqb, leb}
-use lib.Ieee.{Float, neg, lt, eq, ne}
+use lib.Ieee.{Float, neg, eq, ne}
 use Rattle.bits.specs.Choice.{pick}
 use Rattle.bits.specs.Arithmetic.{n0, is_finite}
 use Rattle.bits.specs.Words.{infinity}
@@ -20,7 +20,7 @@ use Rattle.search_points.specs.declared.figures.Trial.{Trial}
 use Rattle.search_points.specs.Residual.{time_error_of}
 use Rattle.search_points.specs.Trial.{anomaly_at, sort_of, unevaluated, trial_of, evaluated_at, trial_at}
 use Rattle.search_points.specs.Meaning.{error_at, is_opposite, error_of_place, l_of_place, SortsMean}
-use Rattle.search_points.proofs.Points.{zero_same, short_back, short_on, above_zero}
+use Rattle.search_points.proofs.Points.{zero_same, opposite_sort, above_zero}
 
 -- What a sort says of an error whose place is 0 or not, beyond the last number's or not, and whose L is finite or not.
 abbrev Says : (tau : Seconds) (error : Float) (at_zero : Bool) (beyond : Bool) (finite : Bool) → Sort → Type 0
@@ -40,24 +40,17 @@ sort_says : (tau : Seconds) (error : Float) (z b f : Bool) → Says tau error z 
 unfolding sort_of
 sort_says tau error z b f = by_tests tau error z b f (ne error error) (eq error n0) (is_opposite tau error) refl refl refl
 
--- And what the tests say of a sort.
+-- And what the tests say of a sort; `opposite_sort` of Points says it of an opposite sign.
 module _ (tau : Seconds) (error : Float) where
-  nan_sort : ne error error ≡ true → sort_of tau error ≡ Unreadable
+  pub nan_sort : ne error error ≡ true → sort_of tau error ≡ Unreadable
   unfolding sort_of
   nan_sort e = rw e
 
-  zero_sort : eq error n0 ≡ true → sort_of tau error ≡ Exact
+  pub zero_sort : eq error n0 ≡ true → sort_of tau error ≡ Exact
   unfolding sort_of
   zero_sort e = rw (zero_same error e, e)
 
-  opposite_sort : is_opposite tau error ≡ true → sort_of tau error ≡ Short error
-  opposite_sort e = go (lt tau.0 n0) refl e
-    where
-      go : (back : Bool) → lt tau.0 n0 ≡ back → pick back (lt n0 error) (lt error n0) ≡ true → sort_of tau error ≡ Short error
-      go true b h = sym (short_back tau error b h)
-      go false b h = sym (short_on tau error b h)
-
-  else_sort : ne error error ≡ false → eq error n0 ≡ false → is_opposite tau error ≡ false → sort_of tau error ≡ Past error
+  pub else_sort : ne error error ≡ false → eq error n0 ≡ false → is_opposite tau error ≡ false → sort_of tau error ≡ Past error
   unfolding sort_of
   else_sort e g h = rw (e, g, h)
 

@@ -1,10 +1,10 @@
 -- One trial point (document 01, "The search"): a place, its anomaly, and its sort.
-use Rattle.std.specs.Prelude.{ℕ, leb, eqb, Float}
+use Rattle.std.specs.Prelude.{ℕ, Bool, leb, ltb, eqb, Float}
 use Rattle.std.specs.Float.{nan, binary64}
 use Rattle.std.specs.Float.Ieee.{neg, lt, eq, ne, of_bits}
 use Rattle.bits.specs.Choice.{pick}
 use Rattle.bits.specs.Arithmetic.{n0, is_finite}
-use Rattle.bits.specs.Words.{infinity}
+use Rattle.bits.specs.Words.{infinity, minus_zero}
 use Rattle.series.specs.Series.{first_l, coefficients_of, sums_of}
 use Rattle.series.specs.declared.figures.Anomaly.{Anomaly}
 use Rattle.series.specs.declared.figures.Seconds.{Seconds}
@@ -19,6 +19,10 @@ use Rattle.search_points.specs.Residual.{time_error_of, terms_of}
 unfoldable pub anomaly_at : Seconds → ℕ → Anomaly
 anomaly_at tau place =
     record { 0 = pick (leb infinity place) nan (pick (lt tau.0 n0) (neg (of_bits binary64 place)) (of_bits binary64 place)) }
+
+-- "has the sign of τ", of the word of a double: the sign bit is set exactly where τ is below zero.
+abbrev pub has_sign : Seconds → (word : ℕ) → Bool
+has_sign tau word = pick (lt tau.0 n0) (leb minus_zero word) (ltb word minus_zero)
 
 -- "R NaN: unreadable; R = 0: exact; R with the sign opposite to τ: short; else past. An infinite R counts by its sign."
 unfoldable pub sort_of : Seconds → Float → Sort

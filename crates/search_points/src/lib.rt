@@ -6,5 +6,5 @@ pub mod residual;
 pub mod trial;
 
 pub use figures::{Initial, Sort, Terms, Trial};
-pub use residual::{radius, time_error};
-pub use trial::{anomaly_at, point_of, try_at, unevaluated_as};
+pub use residual::radius;
+pub use trial::{Passage, anomaly_at, has_sign, unevaluated_as};

@@ -3,13 +3,17 @@ ghost use Rattle.std.specs.Prelude.{◌≡◌};
 ghost use Rattle.search_points.specs.Residual.{time_error_of, radius_of};
 
 use super::figures::{Initial, Terms};
-use series::{Seconds, Sums};
+use super::trial::Passage;
+use series::Sums;
 
-// R, the time error (s) of the anomaly whose sums are s.
-pub fn time_error(initial: Initial, tau: Seconds, s: Sums) -> f64
-    ensures { result ≡ time_error_of initial tau s }
-{
-    ((initial.r0 * s.s1 + initial.sigma0 * s.s2) + initial.mu * s.s3) - tau.0
+impl Passage {
+    // R, the time error (s) of the anomaly whose sums are s.
+    pub fn time_error(self, s: Sums) -> f64
+        ensures { result ≡ time_error_of self.initial self.tau s }
+    {
+        let initial = self.initial;
+        ((initial.r0 * s.s1 + initial.sigma0 * s.s2) + initial.mu * s.s3) - self.tau.0
+    }
 }
 
 // r, the radius (km) at the anomaly whose c0, s1 and s2 are t.

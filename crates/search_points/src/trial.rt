@@ -1,21 +1,30 @@
 // One trial point: a place, its anomaly, and its sort.
 ghost use Rattle.std.specs.Prelude.{◌≡◌, ◌^◌};
-ghost use Rattle.std.specs.Float.Ieee.{neg, lt, eq};
+ghost use Rattle.std.specs.Float.Ieee.{lt};
 ghost use Rattle.bits.specs.Choice.{pick};
 ghost use Rattle.bits.specs.Arithmetic.{n0};
-ghost use Rattle.search_points.specs.declared.figures.Sort.TheVariants.{Short, Exact, Unreadable};
-ghost use Rattle.search_points.specs.Trial.{anomaly_at, sort_of, unevaluated, trial_of, evaluated_at, trial_at};
+ghost use Rattle.search_points.specs.Meaning.{is_opposite};
+ghost use Rattle.search_points.specs.Trial.{anomaly_at, has_sign, sort_of, unevaluated, trial_of, evaluated_at, trial_at};
 
 use super::figures::{Initial, Sort, Terms, Trial};
-use super::residual;
-use bits::words::{INFINITY, SIGN};
-use series::{Anomaly, Seconds, Sums};
+use bits::words::{INFINITY, SIGN, is_finite};
+use series::{Anomaly, Seconds, Sums, coefficients, sums};
 
 // What the sign of tau adds to a word.
 fn sign_of(tau: Seconds) -> u64
     ensures { result ≡ pick (lt tau.0 n0) (2 ^ 63) 0 }
 {
     if tau.0 < 0.0 { SIGN } else { 0 }
+}
+
+// Whether a word has its sign bit set exactly where tau is below zero.
+pub fn has_sign(tau: Seconds, word: u64) -> bool
+    ensures { result ≡ has_sign tau word }
+{
+    if tau.0 < 0.0 {
+        return SIGN <= word;
+    }
+    word < SIGN
 }
 
 // The anomaly at a place: it has the sign of tau.
@@ -28,36 +37,30 @@ pub fn anomaly_at(tau: Seconds, place: u64) -> Anomaly
     Anomaly(f64::from_bits(place + sign_of(tau)))
 }
 
-// The sort of a readable place's point by its time error. Nearly every point is short or past, so that is tested first; the error of the others has no sign.
+// Whether an error has the sign opposite to tau.
+fn is_opposite(tau: Seconds, error: f64) -> bool
+    ensures { result ≡ is_opposite tau error }
+{
+    if tau.0 < 0.0 {
+        return error > 0.0;
+    }
+    error < 0.0
+}
+
+// The sort of a readable place's point by its time error. A short point is told by one test, so that test comes first.
 fn sort_of(tau: Seconds, error: f64) -> Sort
     ensures { result ≡ sort_of tau error }
 {
-    if tau.0 < 0.0 {
-        if error > 0.0 {
-            return Sort::Short(error);
-        }
-        if error < 0.0 {
-            return Sort::Past(error);
-        }
-        return sort_without_sign(error);
-    }
-    if error < 0.0 {
+    if is_opposite(tau, error) {
         return Sort::Short(error);
     }
-    if error > 0.0 {
-        return Sort::Past(error);
-    }
-    sort_without_sign(error)
-}
-
-// The sort of a time error that is neither above nor below zero: a zero, or else a NaN.
-fn sort_without_sign(error: f64) -> Sort
-    ensures { result ≡ pick (eq error n0) Exact Unreadable }
-{
     if error == 0.0 {
         return Sort::Exact;
     }
-    Sort::Unreadable
+    if error.is_nan() {
+        return Sort::Unreadable;
+    }
+    Sort::Past(error)
 }
 
 // A point that is sorted without an evaluation. Nothing asks for the radius there.
@@ -74,47 +77,50 @@ pub fn unevaluated_as(sort: Sort) -> Trial
     }
 }
 
-// The point whose c0 and sums are given.
-pub fn point_of(initial: Initial, tau: Seconds, c0: f64, s: Sums) -> Trial
-    ensures { result ≡ trial_of initial tau c0 s }
-{
-    Trial {
-        sort: sort_of(tau, residual::time_error(initial, tau, s)),
-        terms: Terms {
-            c0,
-            s1: s.s1,
-            s2: s.s2,
-        },
-    }
+// What a search is over: the initial figures of a state, and the interval that is searched.
+#[derive(Clone, Copy)]
+pub struct Passage {
+    pub initial: Initial,
+    pub tau: Seconds,
 }
 
-// The point of an anomaly, evaluated where L is finite; L is not finite where psi is not.
-fn evaluated(initial: Initial, tau: Seconds, psi: Anomaly) -> Trial
-    ensures { result ≡ evaluated_at initial tau psi }
-{
-    if bits::words::is_finite(initial.alpha * (psi.0 * psi.0)) {
-        let c = series::coefficients(initial.alpha, psi);
-        return point_of(initial, tau, c.c0, series::sums(psi, c));
+impl Passage {
+    // The point whose c0 and sums are given.
+    pub fn point_of(self, c0: f64, s: Sums) -> Trial
+        ensures { result ≡ trial_of self.initial self.tau c0 s }
+    {
+        Trial {
+            sort: sort_of(self.tau, self.time_error(s)),
+            terms: Terms {
+                c0,
+                s1: s.s1,
+                s2: s.s2,
+            },
+        }
     }
-    unevaluated_as(Sort::Unreadable)
-}
 
-// The point at place 0: short, with −τ for its error.
-fn at_zero(tau: Seconds) -> Trial
-    ensures { result ≡ unevaluated (Short (neg tau.0)) }
-{
-    unevaluated_as(Sort::Short(-tau.0))
-}
+    // The point of an anomaly, evaluated where L is finite; L is not finite where psi is not.
+    fn evaluated(self, psi: Anomaly) -> Trial
+        ensures { result ≡ evaluated_at self.initial self.tau psi }
+    {
+        let alpha = self.initial.alpha;
+        if is_finite(alpha * (psi.0 * psi.0)) {
+            let c = coefficients(alpha, psi);
+            return self.point_of(c.c0, sums(psi, c));
+        }
+        unevaluated_as(Sort::Unreadable)
+    }
 
-// The trial point at a place.
-pub fn try_at(initial: Initial, tau: Seconds, place: u64) -> Trial
-    ensures { result ≡ trial_at initial tau place }
-{
-    if place == 0 {
-        return at_zero(tau);
+    // The trial point at a place. Place 0 is short, with −τ for its error.
+    pub fn try_at(self, place: u64) -> Trial
+        ensures { result ≡ trial_at self.initial self.tau place }
+    {
+        if place == 0 {
+            return unevaluated_as(Sort::Short(-self.tau.0));
+        }
+        if INFINITY <= place {
+            return unevaluated_as(Sort::Unreadable);
+        }
+        self.evaluated(anomaly_at(self.tau, place))
     }
-    if INFINITY <= place {
-        return unevaluated_as(Sort::Unreadable);
-    }
-    evaluated(initial, tau, anomaly_at(tau, place))
 }

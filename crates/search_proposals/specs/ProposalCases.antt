@@ -1,6 +1,6 @@
 -- The proposals of two rounds, evaluated from the definitions; the places come from an independent program. The state is μ = 398600.4418 km^3/s^2, position
 -- (-2500, -4000, 2000) km, velocity (-6.8, -4.4, 8.7) km/s, and τ = 1800 s. Then proposals that haven't the sign of τ, by hand.
-use Rattle.std.specs.Prelude.{ℕ, ◌≡◌, refl, Bool, true, false}
+use Rattle.std.specs.Prelude.{ℕ, ◌≡◌, refl, Bool, true, false, None, Some}
 use Rattle.std.specs.Float.{binary64}
 use Rattle.std.specs.Float.Ieee.{of_bits, to_bits, neg, add, sub, mul, div, lt, eq, ne}
 use Rattle.series.specs.Series.{beyond_one, reduced_from, nested, c4_of, c5_of, at_reduced, doublings, quotients_of, coefficients_of, sums_of}
@@ -36,7 +36,7 @@ pair short past last place = pair_of short past last (trial_at state interval pl
 -- The first inner round: the first proposal fits, and so does the second, which is another place.
 first_fits :
     let s = pair (end 0x3fb67c17c4c5e46e 0xc0916af043b07380) (end 0x3fc67c17c4c5e46e 0x406414ea8f189d10) true 0x3fc67c17c4c5e46e in
-    proposed state interval s ≡ 0x3fc55e91b0ee662a
+    proposed state interval s ≡ Some 0x3fc55e91b0ee662a
 unfolding
     of_bits to_bits neg add sub mul div lt eq ne beyond_one reduced_from nested c4_of c5_of at_reduced doublings quotients_of coefficients_of sums_of
     time_error_of radius_of anomaly_at sort_of evaluated_at trial_at offered_at by_radius by_interval by_ends proposed
@@ -45,7 +45,7 @@ first_fits = refl
 -- The second round, from the short end: the first proposal does not fit, and the second does.
 second_fits :
     let s = pair (end 0x3fbded54bada254c 0xc087edac395c6302) (end 0x3fc55e91b0ee662a 0x400c6a881b92f800) false 0x3fbded54bada254c in
-    (by_radius state interval s ≡ 0) × (proposed state interval s ≡ 0x3fc5543516a2e674)
+    (by_radius state interval s ≡ None) × (proposed state interval s ≡ Some 0x3fc5543516a2e674)
 unfolding
     of_bits to_bits neg add sub mul div lt eq ne beyond_one reduced_from nested c4_of c5_of at_reduced doublings quotients_of coefficients_of sums_of
     time_error_of radius_of anomaly_at sort_of evaluated_at trial_at offered_at by_radius by_interval by_ends proposed
@@ -64,7 +64,7 @@ abbrev ThirdFits : (tau short past : ℕ) → Type 0
 ThirdFits tau short past =
     let s : Pair = record { short = end 0x3ff0000000000000 short; past = end 0x4014000000000000 past; last_is_past = true; terms = at_rest } in
     let t : Seconds = record { 0 = of_bits binary64 tau } in
-    (by_radius unit t s ≡ 0) × (by_interval t s ≡ 0) × (proposed unit t s ≡ 0x3ff8000000000000)
+    (by_radius unit t s ≡ None) × (by_interval t s ≡ None) × (proposed unit t s ≡ Some 0x3ff8000000000000)
 
 other_sign :
     ThirdFits 0x4010000000000000 0xbff0000000000000 0x401c000000000000

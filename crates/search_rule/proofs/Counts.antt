@@ -6,6 +6,7 @@ use mathlib.Core.List.{List, [], ◌∷◌, ◌++◌}
 use native.Mathlib.Omega.{arith}
 use lib.ListN.{length}
 use lib.Ieee.{Float}
+use Rattle.std.specs.Prelude.{Option, None, Some}
 use Rattle.bits.specs.Choice.{pick}
 use Rattle.search_rule.specs.declared.pair.End.{End}
 use Rattle.search_rule.specs.declared.pair.Pair.{Pair}
@@ -13,7 +14,7 @@ use Rattle.search_rule.specs.declared.pair.Next.{Next}
 use Rattle.search_rule.specs.declared.pair.Next.TheVariants as next
 use Rattle.search_rule.specs.Rule.{Point, Trials, Proposal, Ending, between, exact, unreadable, all_short, History, tries, ends, points_in, ending_of}
 use Rattle.search_rule.specs.Rule.{Sequel, onward, end_at, Outward, on, stop, outward_step, going_on, outward, outward_part, attempt, is_wide}
-use Rattle.search_rule.specs.Rule.{halving, is_inside, round, inward, history, next_of, counted}
+use Rattle.search_rule.specs.Rule.{halving, is_inside, round_from, round, inward, history, next_of, counted}
 
 abbrev pub points : History → ℕ
 points h = length (points_in h)
@@ -45,6 +46,12 @@ pub pick_holds : (P : History → Type 0) (b : Bool) {x y : History} → (b ≡ 
 pick_holds P true h g = h refl
 pick_holds P false h g = g refl
 
+-- A round, by what it begins with: a proposed point strictly between, or the halving place.
+pub round_holds : (P : History → Type 0) (ev : Trials) (tried : List Point) (s : Pair) (proposed : Option ℕ)
+    → ((p : ℕ) → is_inside s p ≡ true → P (onward tried (attempt ev s p) (λ _. halving ev))) → P (halving ev s) → P (round_from ev tried s proposed)
+round_holds P ev tried s None f g = g
+round_holds P ev tried s (Some p) f g = pick_holds P (is_inside s p) (f p) (λ _. g)
+
 pub onward_points : (k : ℕ) (tried : List Point) (h : History) (f : Sequel) → ((l : List Point) (s : Pair) → points (f l s) ≤ k)
     → points (onward tried h f) ≤ points h + k
 unfolding points_in onward
@@ -74,10 +81,9 @@ module _ (ev : Trials) where
     pub round_points : (k : ℕ) (tried : List Point) (s : Pair) → points (round ev pr k tried s) ≤ 2
     unfolding points_in round
     round_points k tried s =
-        let place = pr k tried s in
-        pick_holds (λ (h : History). points h ≤ 2) (is_inside s place)
-        (λ _. omega (arith, onward_points 1 tried (attempt ev s place) (λ _. halving ev) (λ _ s'. halving_points s')))
-        (λ _. omega (arith, halving_points s))
+        round_holds (λ (h : History). points h ≤ 2) ev tried s (pr k tried s)
+        (λ p _. omega (arith, onward_points 1 tried (attempt ev s p) (λ _. halving ev) (λ _ s'. halving_points s')))
+        (omega (arith, halving_points s))
 
     pub inward_points : (left k : ℕ) (tried : List Point) (s : Pair) → points (inward ev pr left k tried s) ≤ 2 * left
     unfolding points_in inward

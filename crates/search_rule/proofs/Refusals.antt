@@ -14,9 +14,9 @@ use Rattle.search_rule.specs.declared.pair.End.{End}
 use Rattle.search_rule.specs.declared.pair.Pair.{Pair}
 use Rattle.search_rule.specs.Rule.{Point, Trials, point_at, Proposal, Ending, between, exact, unreadable, all_short, History, tries, ends, points_in}
 use Rattle.search_rule.specs.Rule.{ending_of, Sequel, onward, end_at, outward_by, going_on, outward, outward_part, moved_by, attempt, gap, is_wide, halfway}
-use Rattle.search_rule.specs.Rule.{halving, is_inside, round, inward, history}
+use Rattle.search_rule.specs.Rule.{halving, round, inward, history}
 use Rattle.search_rule.specs.RulePromise.{IsShort, out_point, ShortBefore, AllOutwardShort, FirstNotShort, EndsSo, SomeUnreadable, LastUnreadable}
-use Rattle.search_rule.proofs.Counts.{points, pick_holds}
+use Rattle.search_rule.proofs.Counts.{points, pick_holds, round_holds}
 use Rattle.search_rule.proofs.Rounds.{NoWider, inward_no_wider, is_short_lem}
 use Rattle.search_rule.proofs.Reach.{out_point-zero, out_point-suc, on_short, history_reached, found}
 
@@ -195,8 +195,7 @@ module _ (ev : Trials) where
     round_fair : (k : ℕ) (tried : List Point) (s : Pair) → Fair (round ev pr k tried s)
     unfolding round
     round_fair k tried s =
-        let p = pr k tried s in
-        pick_holds Fair (is_inside s p) (λ e. onward_fair tried (attempt ev s p) (λ _. halving ev) (attempt_fair s p) (λ _. halving_fair)) (λ e. halving_fair s)
+        round_holds Fair ev tried s (pr k tried s) (λ p e. onward_fair tried (attempt ev s p) (λ _. halving ev) (attempt_fair s p) (λ _. halving_fair)) (halving_fair s)
 
     inward_fair : (left k : ℕ) (tried : List Point) (s : Pair) → Fair (inward ev pr left k tried s)
     unfolding inward

@@ -21,7 +21,7 @@ use Rattle.search_rule.specs.Rule.{Point, Trials, Proposal, Ending, between, exa
 use Rattle.search_rule.specs.Rule.{Sequel, onward, end_at, moved_by, moved, attempt, gap, is_wide, halfway, halving, is_inside, round, inward, history}
 use Rattle.search_rule.specs.Rule.{outward, outward_part, outward_by, going_on}
 use Rattle.search_rule.specs.RulePromise.{IsShort, history_in}
-use Rattle.search_rule.proofs.Counts.{points, onward_points, outward_points, inward_points, pick_holds}
+use Rattle.search_rule.proofs.Counts.{points, onward_points, outward_points, inward_points, pick_holds, round_holds}
 
 -- An end at which K holds and whose pair, where it is one, is at most g wide.
 abbrev pub NoWider : (Ending → Type 0) → ℕ → Ending → Type 0
@@ -69,14 +69,13 @@ module _ (K : Ending → Type 0) where
       pub round_no_wider : (g k : ℕ) (tried : List Point) (s : Pair) → 1 ≤ g → K (between s) → gap s ≤ 2 * g → NoWider K g (ending_of (round ev pr k tried s))
       unfolding ending_of round
       round_no_wider g n tried s g1 k w =
-          let p = pr n tried s in
-          pick_holds (λ (h : History). NoWider K g (ending_of h)) (is_inside s p)
-          (λ e.
+          round_holds (λ (h : History). NoWider K g (ending_of h)) ev tried s (pr n tried s)
+          (λ p e.
           let i = inside_is s p e in
           onward_no_wider (2 * g) g tried (attempt ev s p) (λ _. halving ev)
           (moved_no_wider (2 * g) s p k i.0 i.1 (omega arith) (omega arith))
           (λ _ s' k' w'. halving_no_wider g s' g1 k' w'))
-          (λ e. halving_no_wider g s g1 k w)
+          (halving_no_wider g s g1 k w)
 
       -- So many rounds close a pair of 2 ^ left places, and bring one that is w wider to 1 + w.
       pub inward_no_wider : (left k : ℕ) (tried : List Point) (s : Pair) (w : ℕ) → K (between s) → gap s ≤ 2 ^ left + w

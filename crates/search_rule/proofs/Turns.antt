@@ -1,27 +1,31 @@
 -- What the code's loops cite: a turn of the history at a time. Where a proposal looks at the pair alone, what is left of the history does not depend
 -- on the points tried before, nor on the round's number.
 use Prim.Native.Nat.{ℕ, zero, suc, ◌+◌, ◌-◌, ◌*◌, ◌^◌, ◌≤◌, ◌<◌}
-use mathlib.Core.Path.{◌≡◌, refl, ap, sym, ◌∙◌, subst}
+use mathlib.Core.Path.{◌≡◌, refl, ap, sym, ◌∙◌}
 use mathlib.Core.Bool.{Bool, true, false}
 use mathlib.Core.List.{List, [], ◌∷◌, ◌++◌}
 use native.Mathlib.Omega.{arith}
-use lib.Dec.{eqb}
-use borrow.Author.Tests.{ltb-true, le-ltb, eqb-true, eqb-false}
+use borrow.Author.Tests.{ltb-true}
+use Rattle.std.specs.Prelude.{Option, None, Some, IfSome, is_none, unwrap_or}
+use Rattle.std.specs.declared.ops.ControlFlow.TheVariants.{Continue, Break}
 use Rattle.bits.specs.Choice.{pick}
 use Rattle.search_rule.specs.declared.pair.End.{End}
 use Rattle.search_rule.specs.declared.pair.Pair.{Pair}
 use Rattle.search_rule.specs.declared.pair.Next.{Next}
 use Rattle.search_rule.specs.declared.pair.Next.TheVariants as next
-use Rattle.search_rule.specs.declared.pair.Step.TheVariants as step
 use Rattle.search_rule.specs.Rule.{Point, Trials, Proposal, between, exact, unreadable, all_short, History, tries, ends, Sequel, onward, Outward, on}
 use Rattle.search_rule.specs.Rule.{stop, outward_step, going_on, outward, attempt, gap, is_wide, halfway, halving, is_inside, round_from, round, inward}
 use Rattle.search_rule.specs.Rule.{counted, step_of}
 use Rattle.search_rule.proofs.Counts.{points, used, used_is}
-use Rattle.search_rule.proofs.Rounds.{onward_same}
+use Rattle.search_rule.proofs.Rounds.{inside_is, onward_same}
 
--- A place that is proposed lies strictly between, and 0 is none.
-pub record Fits (s : Pair) (p : ℕ) : Type 0 where
-  pub between_ends : eqb p 0 ≡ false → is_inside s p ≡ true
+-- A place that is proposed lies strictly between.
+abbrev pub Fits : Pair → (proposed : Option ℕ) → Type 0
+Fits s proposed = IfSome proposed (λ p. is_inside s p ≡ true)
+
+-- The place of a turn: the one that is offered in it, or the halving place.
+abbrev pub turn_place : Pair → (offered : Option ℕ) → ℕ
+turn_place s offered = unwrap_or offered (halfway s)
 
 -- After a part as the code keeps it: the next part, where it ended with a pair.
 abbrev pub after : Next → (Pair → History) → Next
@@ -50,12 +54,12 @@ pub between_used : {x : Next} (q : Pair) {m : ℕ} (n : ℕ) (h : History) → x
 between_used q n h e g = ap used (sym g ∙ e) ∙ used_is n h
 
 -- An outward step as the code has it: an end, or the next point.
-pub stops : (n : ℕ) (o : Outward) (f : End → History) {x : Next} → step_of n o ≡ step.Stop x → x ≡ counted n (going_on o f)
+pub stops : (n : ℕ) (o : Outward) (f : End → History) {x : Next} → step_of n o ≡ Break x → x ≡ counted n (going_on o f)
 unfolding counted
 stops n (on r) f e = absurd (let z : ◌≡◌ {A = ℕ} 0 1 = cc in omega arith)
 stops n (stop e) f g = cc
 
-pub goes_on : (n : ℕ) (o : Outward) (f : End → History) {short : End} → step_of n o ≡ step.On short → counted n (going_on o f) ≡ counted n (f short)
+pub goes_on : (n : ℕ) (o : Outward) (f : End → History) {short : End} → step_of n o ≡ Continue short → counted n (going_on o f) ≡ counted n (f short)
 goes_on n (on e) f {short} g = let same : e ≡ short = cc in ap (λ (x : End). counted n (f x)) same
 goes_on n (stop e) f g = absurd (let z : ◌≡◌ {A = ℕ} 0 1 = cc in omega arith)
 
@@ -86,7 +90,7 @@ module _ (ev : Trials) where
   outward_none (suc k) n place short h = absurd (omega arith)
 
   -- ---- inward, where the proposal looks at the pair alone
-  module _ (propose : Pair → ℕ) where
+  module _ (propose : Pair → Option ℕ) where
     abbrev pair_only : Proposal
     pair_only round tried s = propose s
 
@@ -96,9 +100,13 @@ module _ (ev : Trials) where
 
     round_same : (k : ℕ) (tried : List Point) (s : Pair) → round ev pair_only k tried s ≡ round ev pair_only 0 [] s
     unfolding round
-    round_same k tried s =
-        ap (λ (h : History). pick (is_inside s (propose s)) h (halving ev s))
-        (onward_same tried [] (attempt ev s (propose s)) (λ _. halving ev) (λ _. halving ev) (λ _ _. refl))
+    round_same k tried s = by (propose s)
+      where
+        by : (o : Option ℕ) → round_from ev tried s o ≡ round_from ev [] s o
+        by None = refl
+        by (Some p) =
+            ap (λ (h : History). pick (is_inside s p) h (halving ev s))
+            (onward_same tried [] (attempt ev s p) (λ _. halving ev) (λ _. halving ev) (λ _ _. refl))
 
     pub inward_same : (left k : ℕ) (tried : List Point) (s : Pair) → inward ev pair_only left k tried s ≡ rest left s
     unfolding inward
@@ -151,61 +159,47 @@ module _ (ev : Trials) where
 
     module _ (left n : ℕ) (s : Pair) (h : 0 < left) (w : is_wide s ≡ true) where
       -- Without a proposal a round is its halving place.
-      unproposed : propose s ≡ 0 → counted n (rest left s) ≡ after (counted n (attempt ev s (halfway s))) (rest (left - 1))
+      unproposed : propose s ≡ None → counted n (rest left s) ≡ after (counted n (attempt ev s (halfway s))) (rest (left - 1))
       unfolding round halving
       unproposed e =
           inward_turn left n s h w
-          ∙ ap (λ (p : ℕ). after (counted n (round_from ev [] s p)) (rest (left - 1))) e
-          ∙ simp (le-ltb s.short.place 0 (omega arith), w)
+          ∙ ap (λ (o : Option ℕ). after (counted n (round_from ev [] s o)) (rest (left - 1))) e
+          ∙ rw w
 
       -- A proposal strictly between is tried, and then the halving place.
-      proposing_turn : is_inside s (propose s) ≡ true → counted n (rest left s) ≡ after (counted n (attempt ev s (propose s))) (stage false left)
+      proposing_turn : (p : ℕ) → propose s ≡ Some p → is_inside s p ≡ true → counted n (rest left s) ≡ after (counted n (attempt ev s p)) (stage false left)
       unfolding round
-      proposing_turn i =
+      proposing_turn p e i =
           inward_turn left n s h w
-          ∙ rw i (ap (λ (y : Next). after y (rest (left - 1))) (counted_onward n [] (attempt ev s (propose s)) (λ _. halving ev) (halving ev) (λ _ _. refl)))
-          ∙ after_after (counted n (attempt ev s (propose s))) (halving ev) (rest (left - 1))
+          ∙ ap (λ (o : Option ℕ). after (counted n (round_from ev [] s o)) (rest (left - 1))) e
+          ∙ rw i (ap (λ (y : Next). after y (rest (left - 1))) (counted_onward n [] (attempt ev s p) (λ _. halving ev) (halving ev) (λ _ _. refl)))
+          ∙ after_after (counted n (attempt ev s p)) (halving ev) (rest (left - 1))
 
       halving_turn : counted n (stage false left s) ≡ after (counted n (attempt ev s (halfway s))) (rest (left - 1))
       unfolding halving
       halving_turn = rw w (counted_onward n [] (attempt ev s (halfway s)) (λ _. rest (left - 1)) (rest (left - 1)) (λ _ _. refl))
 
-      -- A turn: p is what is offered in it, and 0 stands for the halving place.
-      pub turn : (b : Bool) (p : ℕ) → p ≡ pick b (propose s) 0 → Fits s p
-          → counted n (stage b left s) ≡ after (counted n (attempt ev s (pick (eqb p 0) (halfway s) p))) (stage (eqb p 0) (pick (eqb p 0) (left - 1) left))
-      turn b p e f = by_test b e (eqb p 0) refl
-        where
-          by_test : (b : Bool) → p ≡ pick b (propose s) 0 → (t : Bool) → eqb p 0 ≡ t
-              → counted n (stage b left s) ≡ after (counted n (attempt ev s (pick t (halfway s) p))) (stage t (pick t (left - 1) left))
-          by_test true e true z = unproposed (sym e ∙ eqb-true p 0 z)
-          by_test true e false z =
-              proposing_turn (subst (λ (q : ℕ). is_inside s q ≡ true) e (f.between_ends z))
-              ∙ ap (λ (q : ℕ). after (counted n (attempt ev s q)) (stage false left)) (sym e)
-          by_test false e true z = halving_turn
-          by_test false e false z = absurd (eqb-false p 0 z e)
+      -- A turn, by what is offered in it: a proposed place, or else the halving place is tried.
+      pub turn : (b : Bool) (o : Option ℕ) → o ≡ pick b (propose s) None → Fits s o
+          → counted n (stage b left s) ≡ after (counted n (attempt ev s (turn_place s o))) (stage (is_none o) (pick (is_none o) (left - 1) left))
+      turn true None e f = unproposed (sym e)
+      turn true (Some p) e f = proposing_turn p (sym e) f
+      turn false None e f = halving_turn
+      turn false (Some p) e f = cc
 
 -- The place of a turn is above 0.
-pub place_above : (s : Pair) (p : ℕ) → is_wide s ≡ true → 0 < pick (eqb p 0) (halfway s) p
-place_above s p w = by_test (eqb p 0) refl
-  where
-    by_test : (b : Bool) → eqb p 0 ≡ b → 0 < pick b (halfway s) p
-    by_test true e = omega (arith, ltb-true 1 (gap s) w)
-    by_test false e = let z = eqb-false p 0 e in omega (arith, z)
+pub place_above : (s : Pair) (o : Option ℕ) → is_wide s ≡ true → Fits s o → 0 < turn_place s o
+place_above s None w f = omega (arith, ltb-true 1 (gap s) w)
+place_above s (Some p) w f = omega (arith, (inside_is s p f).0)
 
 -- ---- How many turns are left after a turn.
 module _ (left : ℕ) (some : 0 < left) where
-  pub turns_some : (p : ℕ) → 0 < turns_left (eqb p 0) (pick (eqb p 0) (left - 1) left)
-  turns_some p = by_test (eqb p 0)
-    where
-      by_test : (t : Bool) → 0 < turns_left t (pick t (left - 1) left)
-      by_test true = omega arith
-      by_test false = omega arith
+  pub turns_some : (o : Option ℕ) → 0 < turns_left (is_none o) (pick (is_none o) (left - 1) left)
+  turns_some None = omega arith
+  turns_some (Some p) = omega arith
 
   -- Only a turn that may propose offers a place.
-  pub turns_fewer : (b : Bool) {p : ℕ} (q : ℕ) → p ≡ pick b q 0 → turns_left (eqb p 0) (pick (eqb p 0) (left - 1) left) < turns_left b left
-  turns_fewer b {p} q e = by_test b e (eqb p 0) refl
-    where
-      by_test : (b : Bool) → p ≡ pick b q 0 → (t : Bool) → eqb p 0 ≡ t → turns_left t (pick t (left - 1) left) < turns_left b left
-      by_test b e true z = omega arith
-      by_test true e false z = omega arith
-      by_test false e false z = absurd (eqb-false p 0 z e)
+  pub turns_fewer : (b : Bool) {o : Option ℕ} (q : Option ℕ) → o ≡ pick b q None → turns_left (is_none o) (pick (is_none o) (left - 1) left) < turns_left b left
+  turns_fewer b {o = None} q e = omega arith
+  turns_fewer true {o = Some p} q e = omega arith
+  turns_fewer false {o = Some p} q e = cc

@@ -1,7 +1,9 @@
 -- The rule's own history (document 01, "The search"): every trial point in order, and how the search ends. It is written over any trial function, from a place
 -- to what is found there, and any proposal, which may look at the round's number, at all points tried so far and at the pair. The search of document 01 is one
 -- instance (Search.antt of `search`); its count of points is the length of the history's list of points and nothing else.
-use Rattle.std.specs.Prelude.{ℕ, zero, suc, ◌+◌, ◌-◌, ◌/◌, ◌^◌, Bool, true, false, ◌&&◌, List, [], ◌∷◌, ◌++◌, ltb, Float}
+use Rattle.std.specs.Prelude.{ℕ, zero, suc, ◌+◌, ◌-◌, ◌/◌, ◌^◌, Bool, true, false, ◌&&◌, List, [], ◌∷◌, ◌++◌, ltb, Option, None, Some, Float}
+use Rattle.std.specs.declared.ops.ControlFlow.{ControlFlow}
+use Rattle.std.specs.declared.ops.ControlFlow.TheVariants.{Continue, Break}
 use Rattle.bits.specs.Choice.{pick}
 use Rattle.search_points.specs.declared.figures.Sort.{Sort}
 use Rattle.search_points.specs.declared.figures.Sort.TheVariants.{Short, Past, Exact, Unreadable}
@@ -10,15 +12,13 @@ use Rattle.search_rule.specs.declared.pair.End.{End}
 use Rattle.search_rule.specs.declared.pair.Pair.{Pair}
 use Rattle.search_rule.specs.declared.pair.Next.{Next}
 use Rattle.search_rule.specs.declared.pair.Next.TheVariants as next
-use Rattle.search_rule.specs.declared.pair.Step.{Step}
-use Rattle.search_rule.specs.declared.pair.Step.TheVariants as step
 
 -- A tried point.
 pub record Point : Type 0 where
   pub place : ℕ
   pub trial : Trial
 
--- A trial function, and its point at a place; and a proposal, made from the round's number, the points tried so far, in order, and the pair.
+-- A trial function, and its point at a place; and a proposal, which may be none, made from the round's number, the points tried so far, in order, and the pair.
 abbrev pub Trials : Type 0
 Trials = ℕ → Trial
 
@@ -26,7 +26,7 @@ abbrev pub point_at : Trials → ℕ → Point
 point_at ev place = record { place = place; trial = ev place }
 
 abbrev pub Proposal : Type 0
-Proposal = (round : ℕ) (tried : List Point) → Pair → ℕ
+Proposal = (round : ℕ) (tried : List Point) → Pair → Option ℕ
 
 -- How a search, or a part of one, ends: with a pair, at an exact place, at an unreadable point, or with all outward points short.
 pub data Ending : Type 0 where
@@ -131,8 +131,9 @@ abbrev pub is_inside : Pair → ℕ → Bool
 is_inside s place = ltb s.short.place place && ltb place s.past.place
 
 -- "first a proposal, then .. the halving place"; a proposal that does not lie strictly between counts as none.
-abbrev pub round_from : Trials → List Point → Pair → (proposed : ℕ) → History
-round_from ev tried s proposed = pick (is_inside s proposed) (onward tried (attempt ev s proposed) (λ _. halving ev)) (halving ev s)
+abbrev pub round_from : Trials → List Point → Pair → (proposed : Option ℕ) → History
+round_from ev tried s None = halving ev s
+round_from ev tried s (Some p) = pick (is_inside s p) (onward tried (attempt ev s p) (λ _. halving ev)) (halving ev s)
 
 unfoldable pub round : Trials → Proposal → (round : ℕ) → Sequel
 round ev pr k tried s = round_from ev tried s (pr k tried s)
@@ -157,6 +158,6 @@ unfoldable pub counted : ℕ → History → Next
 counted n (tries p h) = counted (n + 1) h
 counted n (ends e) = next_of n e
 
-abbrev pub step_of : ℕ → Outward → Step
-step_of n (on short) = step.On short
-step_of n (stop e) = step.Stop (next_of n e)
+abbrev pub step_of : ℕ → Outward → ControlFlow Next End
+step_of n (on short) = Continue short
+step_of n (stop e) = Break (next_of n e)

@@ -4,4 +4,4 @@
 
 pub mod pair;
 
-pub use pair::{End, Next, Pair, Step, moved_by, nearer_end, step_by};
+pub use pair::{End, Next, Pair, moved_by, nearer_end, step_by};

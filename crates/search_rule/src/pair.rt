@@ -5,6 +5,7 @@ ghost use Rattle.search_rule.specs.Nearer.{nearer_end};
 
 use bits::words::magnitude_of;
 use search_points::{Sort, Terms, Trial};
+use std::ops::ControlFlow::{self, Break, Continue};
 
 // A tried place with its time error (s).
 #[derive(Clone, Copy)]
@@ -31,13 +32,6 @@ pub enum Next {
     AllShort(u64),
 }
 
-// What an outward point gives: on to the next, from a short end, or a stop.
-#[derive(Clone, Copy)]
-pub enum Step {
-    On(End),
-    Stop(Next),
-}
-
 impl Pair {
     // Whether the two places differ by more than 1.
     pub fn is_wide(self) -> bool
@@ -50,25 +44,23 @@ impl Pair {
     }
 }
 
-// What a tried point gives after a short end: a short point is the next short end, any other a stop; `points` counts it.
-pub fn step_by(short: End, place: u64, t: Trial, points: u64) -> Step
+// What a tried point gives after a short end: a short point is the next short end, any other ends what is tried; `points` counts it.
+pub fn step_by(short: End, place: u64, t: Trial, points: u64) -> ControlFlow<Next, End>
     ensures { result ≡ step_of points (outward_step short place t) }
 {
-    let sort = t.sort;
-    let terms = t.terms;
-    match sort {
-        Sort::Short(error) => Step::On(End { place, error }),
-        Sort::Past(error) => Step::Stop(Next::Between(
+    match t.sort {
+        Sort::Short(error) => Continue(End { place, error }),
+        Sort::Past(error) => Break(Next::Between(
             Pair {
                 short,
                 past: End { place, error },
                 last_is_past: true,
-                terms,
+                terms: t.terms,
             },
             points,
         )),
-        Sort::Exact => Step::Stop(Next::Exact(place, points)),
-        Sort::Unreadable => Step::Stop(Next::Unreadable(points)),
+        Sort::Exact => Break(Next::Exact(place, points)),
+        Sort::Unreadable => Break(Next::Unreadable(points)),
     }
 }
 
@@ -76,20 +68,17 @@ pub fn step_by(short: End, place: u64, t: Trial, points: u64) -> Step
 pub fn moved_by(pair: Pair, place: u64, t: Trial, points: u64) -> Next
     ensures { result ≡ next_of points (moved pair place t) }
 {
-    let past = pair.past;
-    let terms = t.terms;
-    let step = step_by(pair.short, place, t, points);
-    match step {
-        Step::On(short) => Next::Between(
+    match step_by(pair.short, place, t, points) {
+        Continue(short) => Next::Between(
             Pair {
                 short,
-                past,
+                past: pair.past,
                 last_is_past: false,
-                terms,
+                terms: t.terms,
             },
             points,
         ),
-        Step::Stop(next) => next,
+        Break(next) => next,
     }
 }
 

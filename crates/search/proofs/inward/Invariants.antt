@@ -2,7 +2,7 @@
 use Prim.Native.Nat.{ℕ, ◌+◌, ◌≤◌, ◌<◌}
 use mathlib.Core.Path.{◌≡◌}
 use mathlib.Core.Bool.{Bool}
-use lib.Dec.{eqb}
+use Rattle.std.specs.Prelude.{is_none}
 use Rattle.series.specs.declared.figures.Seconds.{Seconds}
 use Rattle.search_points.specs.declared.figures.Initial.{Initial}
 use Rattle.search_points.specs.Trial.{trial_at}
@@ -19,9 +19,9 @@ left_from i tau = stage (trial_at i tau) (proposed i tau)
 
 abbrev pub invariant-loop-left : goal.invariant-loop-left
 invariant-loop-left l =
-    (counted l.points (left_from l.initial' l.tau (eqb l.offered 0) l.left l.pair) ≡ counted l.used (inward_at l.initial' l.tau l.initial.pair))
-    × (l.points + turns_left (eqb l.offered 0) l.left ≤ 227)
-    × (0 < turns_left (eqb l.offered 0) l.left)
+    (counted l.points (left_from l.passage.initial l.passage.tau (is_none l.offered) l.left l.pair) ≡ counted l.used (inward_at l.passage.initial l.passage.tau l.initial.pair))
+    × (l.points + turns_left (is_none l.offered) l.left ≤ 227)
+    × (0 < turns_left (is_none l.offered) l.left)
 
 abbrev pub decreases-loop-left : goal.decreases-loop-left
-decreases-loop-left l = turns_left (eqb l.offered 0) l.left
+decreases-loop-left l = turns_left (is_none l.offered) l.left

@@ -1,39 +1,35 @@
-use Prim.Native.Nat.{◌+◌, ◌-◌, ◌^◌}
-use mathlib.Core.Path.{refl, sym, ◌∙◌}
+-- A turn of the history is a turn of the loop: the first of its places that are left is tried.
+use Prim.Native.Nat.{◌+◌, ◌-◌, ◌*◌, ◌^◌}
+use mathlib.Core.Path.{◌≡◌, sym, ap, ◌∙◌}
 use native.Mathlib.Omega.{arith}
 use Rattle.search_points.specs.Trial.{trial_at}
+use Rattle.search_rule.specs.declared.pair.Next.TheVariants.{AllShort}
 use Rattle.search_rule.specs.Rule.{outward, outward_step}
 use Rattle.search_rule.proofs.Turns.{outward_turn, outward_none, stops, goes_on}
 use Rattle.search.proofs.outward.Goals as goal
 
-pub loop-left-init : goal.loop-left-init
-loop-left-init c = (refl, omega arith, omega arith)
+pub returns-in-Break : goal.returns-in-Break
+returns-in-Break c =
+    let l = c.loop-k in
+    let ev = trial_at c.args.passage.initial c.args.passage.tau in
+    let place = c.args.first + l.k * 2 ^ 52 in
+    stops (l.k + 1) (outward_step l.short place (ev place)) (outward ev (41 - l.k - 1) (place + 2 ^ 52))
+    (sym (simp c.try_at.ensures at c.step_by-step.ensures) ∙ c.in-Break.is)
+    ∙ sym (outward_turn ev (41 - l.k) l.k place l.short (omega arith))
+    ∙ l.invariant
 
-pub returns-in-Stop : goal.returns-in-Stop
-returns-in-Stop c =
-    let l = c.loop-left in
-    let a = c.args in
-    let ev = trial_at a.initial a.tau in
-    stops (l.points + 1) (outward_step l.short l.place (ev l.place)) (outward ev (l.left - 1) (l.place + 2 ^ 52))
-    (sym c.outward_step-step.ensures ∙ c.in-Stop.is)
-    ∙ sym (outward_turn ev l.left l.points l.place l.short c.loop-left-test.true)
-    ∙ l.invariant.0
-
-pub overflow_add-place : goal.overflow_add-place
-overflow_add-place c = omega (arith, c.requires)
-
-pub loop-left-preserved : goal.loop-left-preserved
-loop-left-preserved c =
-    let l = c.loop-left in
-    let a = c.args in
-    let ev = trial_at a.initial a.tau in (
-      sym (goes_on (l.points + 1) (outward_step l.short l.place (ev l.place)) (outward ev (l.left - 1) (l.place + 2 ^ 52))
-          (sym c.outward_step-step.ensures ∙ c.in-On.is))
-          ∙ sym (outward_turn ev l.left l.points l.place l.short c.loop-left-test.true)
-          ∙ l.invariant.0,
-      omega arith,
-      omega arith,
-    )
+pub loop-k-preserved : goal.loop-k-preserved
+loop-k-preserved c =
+    let l = c.loop-k in
+    let ev = trial_at c.args.passage.initial c.args.passage.tau in
+    let place = c.args.first + l.k * 2 ^ 52 in
+    let left : 41 - l.k - 1 ≡ 41 - (l.k + 1) = omega arith in
+    let further : place + 2 ^ 52 ≡ c.args.first + (l.k + 1) * 2 ^ 52 = omega arith in
+    rw (← left, ← further)
+    (sym (goes_on (l.k + 1) (outward_step l.short place (ev place)) (outward ev (41 - l.k - 1) (place + 2 ^ 52))
+    (sym (simp c.try_at.ensures at c.step_by-step.ensures) ∙ c.in-Continue.is))
+    ∙ sym (outward_turn ev (41 - l.k) l.k place l.short (omega arith))
+    ∙ l.invariant)
 
 pub returns : goal.returns
-returns c = outward_none _ _ _ _ _ c.loop-left-test.false ∙ c.loop-left.invariant.0
+returns c = ap AllShort (omega arith) ∙ outward_none _ (41 - c.loop-k.k) c.loop-k.k _ _ (omega arith) ∙ c.loop-k.invariant

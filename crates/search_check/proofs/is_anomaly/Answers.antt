@@ -21,19 +21,19 @@ module _ (i : Initial) (tau : Seconds) (p : ℕ) (t : Trial) (e : t ≡ trial_at
   as_sorted = sym (ap (passes_as (trial_at i tau) p) sorted)
 
 pub short_passes-requires : goal.short_passes-requires
-short_passes-requires c = omega (arith, sorted_readable _ _ _ _ (sorted _ _ _ _ c.try_at-trial.ensures c.in-Short.is) (λ z. z))
+short_passes-requires c = omega (arith, sorted_readable _ _ _ _ (sorted _ _ _ _ c.try_at.ensures c.in-Short.is) (λ z. z))
 
 pub past_passes-requires : goal.past_passes-requires
-past_passes-requires c = past_above _ _ _ _ (sorted _ _ _ _ c.try_at-trial.ensures c.in-Past.is)
+past_passes-requires c = past_above _ _ _ _ (sorted _ _ _ _ c.try_at.ensures c.in-Past.is)
 
 pub returns-in-Exact : goal.returns-in-Exact
-returns-in-Exact c = as_sorted _ _ _ _ c.try_at-trial.ensures c.in-Exact.is
+returns-in-Exact c = as_sorted _ _ _ _ c.try_at.ensures c.in-Exact.is
 
 pub returns-in-Short : goal.returns-in-Short
-returns-in-Short c = c.short_passes.ensures ∙ as_sorted _ _ _ _ c.try_at-trial.ensures c.in-Short.is
+returns-in-Short c = c.short_passes.ensures ∙ as_sorted _ _ _ _ c.try_at.ensures c.in-Short.is
 
 pub returns-in-Past : goal.returns-in-Past
-returns-in-Past c = c.past_passes.ensures ∙ as_sorted _ _ _ _ c.try_at-trial.ensures c.in-Past.is
+returns-in-Past c = c.past_passes.ensures ∙ as_sorted _ _ _ _ c.try_at.ensures c.in-Past.is
 
 pub returns-in-Unreadable : goal.returns-in-Unreadable
-returns-in-Unreadable c = as_sorted _ _ _ _ c.try_at-trial.ensures c.in-Unreadable.is
+returns-in-Unreadable c = as_sorted _ _ _ _ c.try_at.ensures c.in-Unreadable.is

@@ -12,13 +12,11 @@ returns-then-place-ge-INFINITY c = simp (ne_eqb c.args.place 0 (λ e. omega (ari
 
 pub returns-then-is_finite : goal.returns-then-is_finite
 returns-then-is_finite c =
-    let psi = c in
     let finite = sym c.is_finite.ensures ∙ c.if-is_finite.true in
     finite_point _ _ _ _ finite c.first_sums-first.ensures c.point_of.ensures
-    ∙ ap (evaluated_at _ _) psi.anomaly_at-psi.ensures ∙ above_zero _ _ _ psi.requires
+    ∙ ap (evaluated_at _ _) c.anomaly_at-psi.ensures ∙ above_zero _ _ _ c.requires
 
 pub returns : goal.returns
 returns c =
-    let psi = c in
     no_point _ _ _ (sym c.is_finite.ensures ∙ c.if-is_finite.false) c.unevaluated_as-2.ensures
-    ∙ ap (evaluated_at _ _) psi.anomaly_at-psi.ensures ∙ above_zero _ _ _ psi.requires
+    ∙ ap (evaluated_at _ _) c.anomaly_at-psi.ensures ∙ above_zero _ _ _ c.requires

@@ -1,7 +1,7 @@
 -- Where L is finite, the point is what the series and the time error give.
 use mathlib.Core.Path.{sym, ◌∙◌}
 use Rattle.search_points.specs.Trial.{evaluated_at}
-use Rattle.search_points.proofs.trial.evaluated.Goals as goal
+use Rattle.search_points.proofs.trial.Passage.evaluated.Goals as goal
 
 pub returns-then-is_finite : goal.returns-then-is_finite
 unfolding evaluated_at
