@@ -52,3 +52,12 @@ pub needed_not : (holds : Bool) (r : Refusal) (p : ℕ) {refusal : Refusal} {pla
     (holds ≡ false) × (refusal ≡ r) × (place ≡ p)
 needed_not true r p e = cc
 needed_not false r p e = let same = same_fault (sym e) in (refl, same.0, same.1)
+
+-- ---- A check, then an answer: what it says of a check that the answer is given, or a fault.
+pub answered : {T : Type 0} (a : Check) (v : T) {x : T} → (a ⟫ Ok v) ≡ Ok x → (a ≡ sound) × (v ≡ x)
+answered (Ok done) v e = (refl, cc)
+answered (Err f) v e = cc
+
+pub unanswered : {T : Type 0} (a : Check) (v : T) {f : Fault} → (a ⟫ Ok v) ≡ Err f → a ≡ Err f
+unanswered (Ok done) v e = cc
+unanswered (Err g) v e = cc

@@ -1,4 +1,4 @@
--- Laws of the tables, a line for each edition: there is one; a word tells its edition; no record is empty; which columns are numbers, within it.
+-- Laws of the tables, a line for each edition: a word tells its edition; no record is empty; which columns are numbers, within it.
 use Prim.Native.Nat.{ℕ, ◌^◌, ◌<◌}
 use native.Mathlib.Omega.{arith}
 use mathlib.Core.Bool.{true}
@@ -13,9 +13,6 @@ use Rattle.files_formats.specs.declared.elements.Column.TheVariants as at
 use Rattle.files_formats.specs.declared.kinds.Kind.TheVariants.{Number}
 use Rattle.files_formats.specs.Kinds.{kind_at}
 use Rattle.files_formats.specs.Elements.{edition_word, is_edition, edition_of, kinds_of, width_of, column_of, section_of}
-
-pub only_one : (edition : Edition) → edition ≡ One
-only_one One = refl
 
 pub known_word : (edition : Edition) → is_edition (edition_word edition) ≡ true
 known_word One = refl

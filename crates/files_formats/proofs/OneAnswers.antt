@@ -1,12 +1,6 @@
 -- Each public function leaves one answer open.
 use mathlib.Core.Path.{refl, sym, ◌∙◌}
 use Rattle.bits.specs.OneAnswer.{OneAnswer}
-use Rattle.files_formats.proofs.elements.edition_word.Kinds as edition-word-kinds
-use Rattle.files_formats.proofs.elements.edition_word.Reads as edition-word-reads
-use Rattle.files_formats.proofs.elements.is_edition.Kinds as is-edition-kinds
-use Rattle.files_formats.proofs.elements.is_edition.Reads as is-edition-reads
-use Rattle.files_formats.proofs.elements.edition_of.Kinds as edition-of-kinds
-use Rattle.files_formats.proofs.elements.edition_of.Reads as edition-of-reads
 use Rattle.files_formats.proofs.elements.limit.Kinds as limit-kinds
 use Rattle.files_formats.proofs.elements.limit.Reads as limit-reads
 use Rattle.files_formats.proofs.elements.width.Kinds as width-kinds
@@ -29,15 +23,6 @@ use Rattle.files_formats.proofs.files.check_section.Kinds as check-section-kinds
 use Rattle.files_formats.proofs.files.check_section.Reads as check-section-reads
 use Rattle.files_formats.proofs.runs.check_run.Kinds as check-run-kinds
 use Rattle.files_formats.proofs.runs.check_run.Reads as check-run-reads
-
-pub edition_word_one : OneAnswer 0 edition-word-kinds.ps edition-word-kinds.r edition-word-reads.Post
-edition_word_one κs a x y v w p q = (p ∙ sym q, refl)
-
-pub is_edition_one : OneAnswer 0 is-edition-kinds.ps is-edition-kinds.r is-edition-reads.Post
-is_edition_one κs a x y v w p q = (p ∙ sym q, refl)
-
-pub edition_of_one : OneAnswer 0 edition-of-kinds.ps edition-of-kinds.r edition-of-reads.Post
-edition_of_one κs a x y v w p q = (p ∙ sym q, refl)
 
 pub limit_one : OneAnswer 0 limit-kinds.ps limit-kinds.r limit-reads.Post
 limit_one κs a x y v w p q = (p ∙ sym q, refl)

@@ -1,7 +1,7 @@
 -- The words of a section by a table of kinds: what is told of a word whose kind is known, and that the first fault found column by column is the walk's.
-use Prim.Native.Nat.{ℕ, suc, ◌+◌, ◌-◌, ◌*◌, ◌%◌, ◌<◌, ◌≤◌}
+use Prim.Native.Nat.{ℕ, ◌+◌, ◌*◌, ◌%◌, ◌<◌, ◌≤◌}
 use native.Mathlib.Omega.{arith}
-use mathlib.Core.Path.{◌≡◌, refl, sym, ap, subst, ◌∙◌}
+use mathlib.Core.Path.{◌≡◌, refl, sym, ap, ◌∙◌}
 use native.Mathlib.Decide.{dec_lt}
 use mathlib.Core.Bool.{Bool, false}
 use mathlib.Core.List.{List, []}
@@ -15,8 +15,8 @@ use Rattle.bits.specs.Choice.{pick}
 use Rattle.files_records.specs.Records.{same_column}
 use Rattle.bits.specs.declared.refusal.Refusal.{Refusal}
 use Rattle.bits.specs.declared.refusal.Refusal.TheVariants.{WordMissing}
-use Rattle.files_checks.specs.Checks.{sound, fault, told, need, walk}
-use Rattle.files_checks.proofs.WalkLaws.{Quiet, walk_quiet, walk_short, walk_stops}
+use Rattle.files_checks.specs.Checks.{sound, fault, need, walk}
+use Rattle.files_checks.proofs.WalkLaws.{walk_quiet, walk_short, walk_stops}
 use Rattle.files_checks.proofs.CountedLaws.{not_all, all_there}
 use Rattle.files_formats.specs.declared.firsts.Found.{Found}
 use Rattle.files_formats.specs.declared.kinds.Kind.{Kind}

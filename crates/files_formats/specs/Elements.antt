@@ -1,7 +1,10 @@
 -- Document 01, "Element file, edition 1": "the edition, 1; then sections in a fixed order, each after its count: centres (0 to 16, one word: μ); states (0
 -- to 500, eight words: centre number, epoch, x y z vx vy vz); requests (0 to 1,500, two words: state number, time)." An edition is its table and its
 -- columns' numbers.
-use Rattle.std.specs.Prelude.{ℕ, Bool, List, [], ◌∷◌, eqb, length}
+use Rattle.std.specs.Prelude.{ℕ, Bool, Result, Ok, Err, List, [], ◌∷◌, eqb, length}
+use Rattle.bits.specs.Choice.{pick}
+use Rattle.bits.specs.declared.refusal.Refusal.{Refusal}
+use Rattle.bits.specs.declared.refusal.Refusal.TheVariants.{UnknownEdition}
 use Rattle.files_formats.specs.declared.kinds.Kind.{Kind}
 use Rattle.files_formats.specs.declared.kinds.Kind.TheVariants.{Figure, Number}
 use Rattle.files_formats.specs.declared.elements.Edition.{Edition}
@@ -20,6 +23,10 @@ is_edition w = eqb w (edition_word One)
 
 abbrev pub edition_of : (word : ℕ) → Edition
 edition_of w = One
+
+-- The edition of a word, or 22.
+abbrev pub edition_from : (word : ℕ) → Result Edition Refusal
+edition_from w = pick (is_edition w) (Ok (edition_of w)) (Err UnknownEdition)
 
 -- ---- Sections, in the order of the file, and the most records of each.
 abbrev pub sections : List Section

@@ -1,14 +1,15 @@
 // The element file as tables: editions, sections, the kinds of their columns, and columns by name.
-ghost use Rattle.std.specs.Prelude.{◌≡◌, ◌<◌, ◌≤◌};
+ghost use Rattle.std.specs.Prelude.{◌≡◌, ◌<◌, ◌≤◌, length};
 ghost use Rattle.files_formats.specs.Kinds.{kind_at};
-ghost use Rattle.files_formats.specs.Elements.{edition_word, is_edition, edition_of, limit_of, kinds_of, width_of, widest, column_of};
+ghost use Rattle.files_formats.specs.Elements.{edition_word, edition_from, limit_of, kinds_of, width_of, widest, column_of};
 
 use crate::kinds::Kind;
+use bits::Refusal;
 
-// The editions of the element file.
+// The editions of the element file, each with the word that its files begin with.
 #[derive(Clone, Copy, Debug, PartialEq, Eq)]
 pub enum Edition {
-    One,
+    One = 1,
 }
 
 // Which section, in the order of the file.
@@ -53,27 +54,25 @@ const STATES_1: [Kind; 8] = [N, F, F, F, F, F, F, F];
 
 const REQUESTS_1: [Kind; 2] = [N, F];
 
-// The word that a file of an edition begins with.
-pub fn edition_word(edition: Edition) -> u64
-    ensures { result ≡ edition_word edition }
-{
-    match edition {
-        Edition::One => 1,
+impl From<Edition> for u64 {
+    ghost from_gives = { λ edition word. word ≡ edition_word edition };
+
+    fn from(edition: Edition) -> u64 {
+        edition as u64
     }
 }
 
-// Whether a word is that of an edition.
-pub fn is_edition(word: u64) -> bool
-    ensures { result ≡ is_edition word }
-{
-    word == 1
-}
+impl TryFrom<u64> for Edition {
+    type Error = Refusal;
 
-// The edition of a word.
-pub fn edition_of(word: u64) -> Edition
-    ensures { result ≡ edition_of word }
-{
-    Edition::One
+    ghost try_from_gives = { λ word answer. answer ≡ edition_from word };
+
+    fn try_from(word: u64) -> Result<Edition, Refusal> {
+        match word {
+            1 => Ok(Edition::One),
+            _ => Err(Refusal::UnknownEdition),
+        }
+    }
 }
 
 // The most records that a section may have.
@@ -87,14 +86,14 @@ pub fn limit(section: Section) -> u16
     }
 }
 
-// The width of a record of edition 1.
-fn width_1(section: Section) -> usize
-    ensures { (result ≡ width_of Edition.One section) × (0 < result) × (result ≤ widest) }
+// The kinds of the columns of a record, in their order.
+fn kinds(edition: Edition, section: Section) -> &'static [Kind]
+    ensures { (result.now ≡ kinds_of edition section) × (0 < length result.now) × (length result.now ≤ widest) }
 {
-    match section {
-        Section::Centres => CENTRES_1.len(),
-        Section::States => STATES_1.len(),
-        Section::Requests => REQUESTS_1.len(),
+    match (edition, section) {
+        (Edition::One, Section::Centres) => &CENTRES_1,
+        (Edition::One, Section::States) => &STATES_1,
+        (Edition::One, Section::Requests) => &REQUESTS_1,
     }
 }
 
@@ -102,21 +101,7 @@ fn width_1(section: Section) -> usize
 pub fn width(edition: Edition, section: Section) -> usize
     ensures { (result ≡ width_of edition section) × (0 < result) × (result ≤ widest) }
 {
-    match edition {
-        Edition::One => width_1(section),
-    }
-}
-
-// The kind of a column of edition 1.
-fn kind_1(section: Section, column: usize) -> Kind
-    requires { column < width_of Edition.One section }
-    ensures { result ≡ kind_at (kinds_of Edition.One section) column }
-{
-    match section {
-        Section::Centres => CENTRES_1[column],
-        Section::States => STATES_1[column],
-        Section::Requests => REQUESTS_1[column],
-    }
+    kinds(edition, section).len()
 }
 
 // The kind of a column.
@@ -124,31 +109,20 @@ pub fn kind_at(edition: Edition, section: Section, column: usize) -> Kind
     requires { column < width_of edition section }
     ensures { result ≡ kind_at (kinds_of edition section) column }
 {
-    match edition {
-        Edition::One => kind_1(section, column),
-    }
-}
-
-// The number of a column of edition 1.
-fn column_1(column: Column) -> usize
-    ensures { (result ≡ column_of Edition.One column) × (result < widest) }
-{
-    match column {
-        Column::Mu => 0,
-        Column::Centre => 0,
-        Column::Epoch => 1,
-        Column::Position => 2,
-        Column::Velocity => 5,
-        Column::State => 0,
-        Column::Time => 1,
-    }
+    kinds(edition, section)[column]
 }
 
 // The number of a column in its record.
 pub fn column_at(edition: Edition, column: Column) -> usize
     ensures { (result ≡ column_of edition column) × (result < widest) }
 {
-    match edition {
-        Edition::One => column_1(column),
+    match (edition, column) {
+        (Edition::One, Column::Mu) => 0,
+        (Edition::One, Column::Centre) => 0,
+        (Edition::One, Column::Epoch) => 1,
+        (Edition::One, Column::Position) => 2,
+        (Edition::One, Column::Velocity) => 5,
+        (Edition::One, Column::State) => 0,
+        (Edition::One, Column::Time) => 1,
     }
 }

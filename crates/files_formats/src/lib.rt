@@ -9,10 +9,7 @@ pub mod rows;
 mod runs;
 mod shapes;
 
-pub use elements::{
-    Column, Edition, LONGEST_FILE, Section, column_at, edition_of, edition_word, is_edition, limit,
-    width,
-};
+pub use elements::{Column, Edition, LONGEST_FILE, Section, column_at, limit, width};
 pub use files::check_section;
 pub use kinds::Kind;
 pub use runs::check_run;

@@ -8,10 +8,9 @@ use borrow.Author.Tests.{leb-true}
 use lib.ListN.{length}
 use Rattle.files_words.specs.Bytes.{word_at}
 use Rattle.files_records.proofs.Steps.{more}
-use Rattle.files_checks.specs.declared.Check.{Check}
-use Rattle.files_checks.specs.declared.Check.TheVariants.{Sound, Fault}
-use Rattle.files_checks.specs.Checks.{end_check}
-use Rattle.files_checks.proofs.CheckLaws.{both, needed}
+use Rattle.std.specs.Prelude.{Ok}
+use Rattle.files_checks.specs.Checks.{sound, end_check}
+use Rattle.files_checks.proofs.CheckLaws.{both, needed, answered}
 use Rattle.files_checks.proofs.CountedLaws.{count_within, words_within, edition_is}
 use Rattle.files_formats.specs.declared.elements.Edition.{Edition}
 use Rattle.files_formats.specs.declared.elements.Edition.TheVariants.{One}
@@ -20,8 +19,7 @@ use Rattle.files_formats.specs.declared.elements.Section.TheVariants.{Centres, S
 use Rattle.files_formats.specs.declared.shapes.Shape.{Shape}
 use Rattle.files_formats.specs.Elements.{is_edition, limit_of, width_of}
 use Rattle.files_formats.specs.Shapes.{count_of, words_of, place_of, end_of, section_check}
-use Rattle.files_reader.specs.declared.Reading.TheVariants.{Sections, Refused}
-use Rattle.files_reader.specs.Reader.{longest_of, longest_file, edition_in, first_check, shape_in, sections_check, file_check, reading_by, reading_of}
+use Rattle.files_reader.specs.Reader.{longest_of, longest_file, edition_in, first_check, shape_in, sections_check, file_check, reading_of}
 
 -- The counts of a shape stand where it places them.
 pub count_in : (edition : Edition) (file : List ℕ) (section : Section) →
@@ -40,23 +38,23 @@ few_limit Centres = omega arith
 few_limit States = omega arith
 few_limit Requests = omega arith
 
-pub few_records : (file : List ℕ) (shape : Shape) (section : Section) → section_check file shape section ≡ Sound → word_at file (place_of shape section) < 2 ^ 16
+pub few_records : (file : List ℕ) (shape : Shape) (section : Section) → section_check file shape section ≡ sound → word_at file (place_of shape section) < 2 ^ 16
 unfolding section_check
-few_records file shape section sound = omega (arith, count_within file (place_of shape section) _ _ _ sound, few_limit section)
+few_records file shape section passed = omega (arith, count_within file (place_of shape section) _ _ _ passed, few_limit section)
 
 -- ---- A file that is sound.
-module _ (file : List ℕ) (sound : file_check file ≡ Sound) where
+module _ (file : List ℕ) (passed : file_check file ≡ sound) where
   abbrev shape : Shape
   shape = shape_in (edition_in file) file
 
-  parts : (first_check file ≡ Sound)
-      × (section_check file shape Centres ≡ Sound)
-      × (section_check file shape States ≡ Sound)
-      × (section_check file shape Requests ≡ Sound)
-      × (end_check file (end_of shape) ≡ Sound)
+  parts : (first_check file ≡ sound)
+      × (section_check file shape Centres ≡ sound)
+      × (section_check file shape States ≡ sound)
+      × (section_check file shape Requests ≡ sound)
+      × (end_check file (end_of shape) ≡ sound)
   unfolding file_check sections_check section_check shape_in
   parts =
-      let e = both _ _ sound in
+      let e = both _ _ passed in
       let c = both _ _ e.1 in
       let s = both _ _ c.1 in
       let r = both _ _ s.1 in
@@ -65,7 +63,7 @@ module _ (file : List ℕ) (sound : file_check file ≡ Sound) where
   pub edition_sound : (8 ≤ length file) × (is_edition (word_at file 0) ≡ true)
   edition_sound = edition_is file _ parts.0
 
-  pub section_sound : (section : Section) → section_check file shape section ≡ Sound
+  pub section_sound : (section : Section) → section_check file shape section ≡ sound
   section_sound Centres = parts.1
   section_sound States = parts.2
   section_sound Requests = parts.3
@@ -98,18 +96,10 @@ pub end_within : (shape : Shape) → Few shape → end_of shape ≤ longest_file
 end_within shape few = omega (arith, within_longest shape few Requests, more (width_of shape.edition Requests) (few Requests))
 
 -- ---- A file that is accepted.
-pub read_by : (k : Check) (shape x : Shape) → reading_by k shape ≡ Sections x → (k ≡ Sound) × (shape ≡ x)
-read_by Sound shape x e = (refl, cc)
-read_by (Fault number place) shape x e = let z : ◌≡◌ {A = ℕ} 0 1 = cc in absurd (omega arith)
-
-pub refused_by : (k : Check) (shape : Shape) {number place : ℕ} → reading_by k shape ≡ Refused number place → k ≡ Fault number place
-refused_by Sound shape e = let z : ◌≡◌ {A = ℕ} 0 1 = cc in absurd (omega arith)
-refused_by (Fault m q) shape e = cc
-
-module _ (file : List ℕ) (shape : Shape) (accepted : reading_of file ≡ Sections shape) where
-  pub accepted_sound : (file_check file ≡ Sound) × (shape_in (edition_in file) file ≡ shape)
+module _ (file : List ℕ) (shape : Shape) (accepted : reading_of file ≡ Ok shape) where
+  pub accepted_sound : (file_check file ≡ sound) × (shape_in (edition_in file) file ≡ shape)
   unfolding reading_of
-  accepted_sound = read_by (file_check file) (shape_in (edition_in file) file) shape accepted
+  accepted_sound = answered (file_check file) (shape_in (edition_in file) file) accepted
 
   pub accepted_counts : (shape.centres ≤ limit_of Centres) × (shape.states ≤ limit_of States) × (shape.requests ≤ limit_of Requests)
   accepted_counts =
@@ -119,5 +109,5 @@ module _ (file : List ℕ) (shape : Shape) (accepted : reading_of file ≡ Secti
   -- "at most 56,160 bytes".
   pub accepted_length : length file ≤ longest_file
   accepted_length =
-      let sound = accepted_sound.0 in
-      omega (arith, sound_length file sound, end_within (shape_in (edition_in file) file) (counts_within file sound))
+      let passed = accepted_sound.0 in
+      omega (arith, sound_length file passed, end_within (shape_in (edition_in file) file) (counts_within file passed))

@@ -1,12 +1,11 @@
 -- Small files, read by computing.
-use Rattle.std.specs.Prelude.{ℕ, ◌≡◌, refl, List, [], ◌∷◌, ◌++◌, replicate}
+use Rattle.std.specs.Prelude.{ℕ, ◌≡◌, refl, Ok, List, [], ◌∷◌, ◌++◌, replicate}
 use Rattle.files_words.specs.Bytes.{as_bytes}
+use Rattle.files_checks.specs.Checks.{IsFault}
 use Rattle.files_formats.specs.declared.elements.Edition.TheVariants.{One}
 use Rattle.files_formats.specs.declared.elements.Section.TheVariants.{Centres, States, Requests}
 use Rattle.files_formats.specs.declared.shapes.Shape.{Shape}
 use Rattle.files_formats.specs.Shapes.{shape_of, place_of}
-use Rattle.files_reader.specs.declared.Reading.{Reading}
-use Rattle.files_reader.specs.declared.Reading.TheVariants as reading
 use Rattle.files_reader.specs.Reader.{longest_file, reading_of}
 
 -- P10 as a file, byte by byte: the edition, 1; one centre, whose μ is 0; one state, of centre 0 and epoch 0, at (1,0,0) and at rest; one request, for state 0
@@ -34,7 +33,7 @@ p10_file =
 abbrev pub one_of_each : Shape
 one_of_each = shape_of One 1 1 1
 
-p10 : reading_of p10_file ≡ reading.Sections one_of_each
+p10 : reading_of p10_file ≡ Ok one_of_each
 unfolding reading_of
 p10 = refl
 
@@ -42,16 +41,19 @@ places : (place_of one_of_each Centres ≡ 8) × (place_of one_of_each States �
 places = (refl, refl, refl)
 
 -- What the reader answers of the file of these words.
-abbrev pub Reads : List ℕ → Reading → Type 0
-Reads ws answer = reading_of (as_bytes ws) ≡ answer
+abbrev pub Reads : List ℕ → Shape → Type 0
+Reads ws shape = reading_of (as_bytes ws) ≡ Ok shape
+
+abbrev pub Refuses : List ℕ → (number place : ℕ) → Type 0
+Refuses ws number place = IsFault (reading_of (as_bytes ws)) number place
 
 -- "An empty file is 21 at 0."
-empty : Reads [] (reading.Refused 21 0)
+empty : Refuses [] 21 0
 unfolding reading_of as_bytes
-empty = refl
+empty = (refl, refl)
 
 -- The shortest file: 32 bytes.
-smallest : Reads (1 ∷ 0 ∷ 0 ∷ 0 ∷ []) (reading.Sections (shape_of One 0 0 0))
+smallest : Reads (1 ∷ 0 ∷ 0 ∷ 0 ∷ []) (shape_of One 0 0 0)
 unfolding reading_of as_bytes
 smallest = refl
 
@@ -59,60 +61,60 @@ smallest = refl
 abbrev pub one_each : List ℕ
 one_each = 1 ∷ 1 ∷ 398600 ∷ 1 ∷ 0 ∷ 7 ∷ 1 ∷ 2 ∷ 3 ∷ 4 ∷ 5 ∷ 6 ∷ 1 ∷ 0 ∷ 9 ∷ []
 
-one : Reads one_each (reading.Sections one_of_each)
+one : Reads one_each one_of_each
 unfolding reading_of as_bytes
 one = refl
 
 -- 22: another edition, at 0, though more than that is wrong.
-other_edition : Reads (2 ∷ 17 ∷ []) (reading.Refused 22 0)
+other_edition : Refuses (2 ∷ 17 ∷ []) 22 0
 unfolding reading_of as_bytes
-other_edition = refl
+other_edition = (refl, refl)
 
 -- 23: 17 centres, at the count word; 16 pass, and the first of their words is missing.
-centres_17 : Reads (1 ∷ 17 ∷ []) (reading.Refused 23 8)
+centres_17 : Refuses (1 ∷ 17 ∷ []) 23 8
 unfolding reading_of as_bytes
-centres_17 = refl
+centres_17 = (refl, refl)
 
-centres_16 : Reads (1 ∷ 16 ∷ []) (reading.Refused 21 16)
+centres_16 : Refuses (1 ∷ 16 ∷ []) 21 16
 unfolding reading_of as_bytes
-centres_16 = refl
+centres_16 = (refl, refl)
 
 -- 501 states and 500, and 1,501 requests and 1,500, likewise.
-states_501 : Reads (1 ∷ 0 ∷ 501 ∷ []) (reading.Refused 23 16)
+states_501 : Refuses (1 ∷ 0 ∷ 501 ∷ []) 23 16
 unfolding reading_of as_bytes
-states_501 = refl
+states_501 = (refl, refl)
 
-states_500 : Reads (1 ∷ 0 ∷ 500 ∷ []) (reading.Refused 21 24)
+states_500 : Refuses (1 ∷ 0 ∷ 500 ∷ []) 21 24
 unfolding reading_of as_bytes
-states_500 = refl
+states_500 = (refl, refl)
 
-requests_1501 : Reads (1 ∷ 0 ∷ 0 ∷ 1501 ∷ []) (reading.Refused 23 24)
+requests_1501 : Refuses (1 ∷ 0 ∷ 0 ∷ 1501 ∷ []) 23 24
 unfolding reading_of as_bytes
-requests_1501 = refl
+requests_1501 = (refl, refl)
 
-requests_1500 : Reads (1 ∷ 0 ∷ 0 ∷ 1500 ∷ []) (reading.Refused 21 32)
+requests_1500 : Refuses (1 ∷ 0 ∷ 0 ∷ 1500 ∷ []) 21 32
 unfolding reading_of as_bytes
-requests_1500 = refl
+requests_1500 = (refl, refl)
 
 -- "at most 56,160 bytes".
 longest : longest_file ≡ 56160
 longest = refl
 
 -- 24: state 0 of two names centre 1 of one centre, at that word, before a word of state 1 is missed; a request names state 0 of no states.
-no_such_centre : Reads (1 ∷ 1 ∷ 398600 ∷ 2 ∷ 1 ∷ 7 ∷ 1 ∷ 2 ∷ 3 ∷ 4 ∷ 5 ∷ 6 ∷ []) (reading.Refused 24 32)
+no_such_centre : Refuses (1 ∷ 1 ∷ 398600 ∷ 2 ∷ 1 ∷ 7 ∷ 1 ∷ 2 ∷ 3 ∷ 4 ∷ 5 ∷ 6 ∷ []) 24 32
 unfolding reading_of as_bytes
-no_such_centre = refl
+no_such_centre = (refl, refl)
 
-no_such_state : Reads (1 ∷ 0 ∷ 0 ∷ 1 ∷ 0 ∷ 9 ∷ 3 ∷ []) (reading.Refused 24 32)
+no_such_state : Refuses (1 ∷ 0 ∷ 0 ∷ 1 ∷ 0 ∷ 9 ∷ 3 ∷ []) 24 32
 unfolding reading_of as_bytes
-no_such_state = refl
+no_such_state = (refl, refl)
 
 -- The states are held to the centres, the requests to the states: of two centres and one state a request may not name state 1, of one centre and two it may.
-second_centre_only : Reads (1 ∷ 2 ∷ 7 ∷ 7 ∷ 1 ∷ 1 ∷ 7 ∷ 1 ∷ 2 ∷ 3 ∷ 4 ∷ 5 ∷ 6 ∷ 1 ∷ 1 ∷ 9 ∷ []) (reading.Refused 24 112)
+second_centre_only : Refuses (1 ∷ 2 ∷ 7 ∷ 7 ∷ 1 ∷ 1 ∷ 7 ∷ 1 ∷ 2 ∷ 3 ∷ 4 ∷ 5 ∷ 6 ∷ 1 ∷ 1 ∷ 9 ∷ []) 24 112
 unfolding reading_of as_bytes
-second_centre_only = refl
+second_centre_only = (refl, refl)
 
-second_state : Reads (1 ∷ 1 ∷ 7 ∷ 2 ∷ 0 ∷ 7 ∷ 1 ∷ 2 ∷ 3 ∷ 4 ∷ 5 ∷ 6 ∷ 0 ∷ 7 ∷ 1 ∷ 2 ∷ 3 ∷ 4 ∷ 5 ∷ 6 ∷ 1 ∷ 1 ∷ 9 ∷ []) (reading.Sections (shape_of One 1 2 1))
+second_state : Reads (1 ∷ 1 ∷ 7 ∷ 2 ∷ 0 ∷ 7 ∷ 1 ∷ 2 ∷ 3 ∷ 4 ∷ 5 ∷ 6 ∷ 0 ∷ 7 ∷ 1 ∷ 2 ∷ 3 ∷ 4 ∷ 5 ∷ 6 ∷ 1 ∷ 1 ∷ 9 ∷ []) (shape_of One 1 2 1)
 unfolding reading_of as_bytes
 second_state = refl
 
@@ -120,10 +122,10 @@ second_place : place_of (shape_of One 1 2 1) Requests ≡ 160
 second_place = refl
 
 -- A byte short, a byte long.
-one_short : reading_of (as_bytes (1 ∷ 0 ∷ 0 ∷ []) ++ replicate 7 0) ≡ reading.Refused 21 24
+one_short : IsFault (reading_of ((as_bytes (1 ∷ 0 ∷ 0 ∷ []) ++ replicate 7 0))) 21 24
 unfolding reading_of as_bytes
-one_short = refl
+one_short = (refl, refl)
 
-one_long : reading_of (as_bytes one_each ++ (7 ∷ [])) ≡ reading.Refused 25 120
+one_long : IsFault (reading_of ((as_bytes one_each ++ (7 ∷ [])))) 25 120
 unfolding reading_of as_bytes
-one_long = refl
+one_long = (refl, refl)

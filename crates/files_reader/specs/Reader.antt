@@ -1,11 +1,10 @@
 -- Document 01: "The reader walks forward, answers either the three section places or a number with its byte place: 21 a needed word not whole, 22 edition, 23
 -- count above limit, 24 number not in its section, 25 bytes left after the last section. A section place is the byte of its count word, and the count comes
 -- with it. The place of a refusal is the first byte of the word at fault, for 25 the first byte left." The shape of a file says its places and counts.
-use Rattle.std.specs.Prelude.{ℕ, List, [], ◌∷◌}
+use Rattle.std.specs.Prelude.{ℕ, Result, Ok, List, [], ◌∷◌}
 use Rattle.files_words.specs.Bytes.{word_at}
-use Rattle.files_checks.specs.declared.Check.{Check}
-use Rattle.files_checks.specs.declared.Check.TheVariants.{Sound, Fault}
-use Rattle.files_checks.specs.Checks.{◌⟫◌, edition_check, end_check}
+use Rattle.files_checks.specs.declared.Fault.{Fault}
+use Rattle.files_checks.specs.Checks.{Check, ◌⟫◌, edition_check, end_check}
 use Rattle.files_formats.specs.declared.elements.Edition.{Edition}
 use Rattle.files_formats.specs.declared.elements.Edition.TheVariants.{One}
 use Rattle.files_formats.specs.declared.elements.Section.{Section}
@@ -13,8 +12,6 @@ use Rattle.files_formats.specs.declared.elements.Section.TheVariants.{Centres, S
 use Rattle.files_formats.specs.declared.shapes.Shape.{Shape}
 use Rattle.files_formats.specs.Elements.{is_edition, edition_of, sections, limit_of}
 use Rattle.files_formats.specs.Shapes.{shape_of, with_count, place_of, end_of, section_check}
-use Rattle.files_reader.specs.declared.Reading.{Reading}
-use Rattle.files_reader.specs.declared.Reading.TheVariants.{Sections, Refused}
 
 -- "at most 56,160 bytes": every section at its limit. The longest file of an edition, and of all editions.
 abbrev pub longest_of : Edition → ℕ
@@ -54,19 +51,6 @@ unfolding edition_check sections_check
 file_check file = first_check file ⟫ sections_check file (shape_of (edition_in file) 0 0 0) sections
 
 -- The answer.
-abbrev pub reading_by : Check → Shape → Reading
-reading_by Sound shape = Sections shape
-reading_by (Fault number place) shape = Refused number place
-
-unfoldable pub reading_of : List ℕ → Reading
+unfoldable pub reading_of : List ℕ → Result Shape Fault
 unfolding file_check shape_in
-reading_of file = reading_by (file_check file) (shape_in (edition_in file) file)
-
--- ---- What the reader's inner steps answer: after what was read so far, one section more, and the end.
-abbrev pub next_reading : List ℕ → Reading → Section → Reading
-next_reading file (Sections shape) section = reading_by (section_check file shape section) (grown file shape section)
-next_reading file (Refused number place) section = Refused number place
-
-abbrev pub end_reading : List ℕ → Reading → Reading
-end_reading file (Sections shape) = reading_by (end_check file (end_of shape)) shape
-end_reading file (Refused number place) = Refused number place
+reading_of file = file_check file ⟫ Ok (shape_in (edition_in file) file)

@@ -1,5 +1,5 @@
 -- The count, then the walk over as many words as it tells.
-use Prim.Native.Nat.{ℕ, ◌+◌, ◌*◌, ◌^◌, ◌<◌, ◌≤◌}
+use Prim.Native.Nat.{ℕ, ◌+◌, ◌*◌, ◌^◌, ◌≤◌}
 use native.Mathlib.Omega.{arith}
 use mathlib.Core.List.{List, []}
 use mathlib.Core.Path.{◌≡◌, sym, ap, ap₂, ◌∙◌}
@@ -10,7 +10,7 @@ use Rattle.files_checks.proofs.CheckLaws.{goes_on}
 use Rattle.files_checks.proofs.CountedLaws.{few_words}
 use Rattle.files_formats.specs.Kinds.{ruling_of}
 use Rattle.files_formats.specs.Elements.{kinds_of}
-use Rattle.files_formats.specs.Shapes.{place_of, below_of, section_check}
+use Rattle.files_formats.specs.Shapes.{below_of, section_check}
 use Rattle.files_formats.proofs.files.check_section.Goals as goal
 
 -- The count's check is that of the definition.

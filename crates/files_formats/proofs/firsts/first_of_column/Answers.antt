@@ -1,6 +1,6 @@
 use Prim.Native.Nat.{◌+◌}
 use native.Mathlib.Omega.{arith}
-use mathlib.Core.Path.{refl, sym, ◌∙◌}
+use mathlib.Core.Path.{sym, ◌∙◌}
 use Rattle.files_formats.proofs.FirstLaws.{one_passed, column_stops, column_ends, column_unasked}
 use Rattle.files_formats.proofs.TableLaws.{nothing_asked, judged}
 use Rattle.files_formats.proofs.firsts.first_of_column.Goals as goal

@@ -1,6 +1,0 @@
--- By the edition.
-use Rattle.files_formats.proofs.EditionLaws.{only_one}
-use Rattle.files_formats.proofs.elements.width.Goals as goal
-
-pub returns : goal.returns
-returns c = rw (only_one c.args.edition) c.width_1.ensures
