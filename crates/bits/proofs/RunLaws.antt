@@ -1,16 +1,19 @@
 -- What is known of the first word that is sought and of a run that has none, what a word says of the double that it is the word of, a run after a copy, and
 -- two runs with the same words.
 use mathlib.Core.Path.{◌≡◌, refl, sym, ap, ap₂, subst, ◌∙◌}
-use mathlib.Core.Bool.{Bool, true, false, not, ◌||◌, ◌&&◌, true≢false}
+use mathlib.Core.Bool.{Bool, true, false, not, cond, ◌||◌, ◌&&◌, true≢false}
 use mathlib.Core.List.{List, [], ◌∷◌}
 use Prim.Native.Nat.{ℕ, zero, suc, ◌+◌, ◌<◌, ◌≤◌}
 use native.Mathlib.Omega.{arith}
 use native.Mathlib.Decide.{dec_lt}
+use Rattle.std.specs.List.{position_or_len}
+use Rattle.std.proofs.lemmas.List.Recursion.{is_position_or_len}
 use borrow.Author.Tests.{lt-ltb, le-ltb, ltb-false, not-false, eqb-true, eq-eqb, ne_eqb}
 use lib.Dec.{T, ltb, eqb}
 use lib.Ieee.{Float, binary64, fits, nan_bits, of_bits, to_bits}
 use lib.Ieee.Bits.{nan_bits_is, of_bits-to_bits}
 use lib.ListN.{length, get_or}
+use lib.Pointwise.{pointwise}
 use Rattle.bits.specs.Choice.{pick}
 use Rattle.bits.specs.Words.{words_of}
 use Rattle.bits.specs.Runs.{is_sought_double, is_sought, first_of, has, any_sought, AllFit, copied, same_words}
@@ -34,6 +37,23 @@ sought_words s (x ∷ xs) f = go (is_sought s (to_bits binary64 x)) (sought_word
     go false e r =
         let n = first_of s (words_of xs) in
         rw (← e) (same_ltb (1 + n) (length (words_of (x ∷ xs))) n (length (words_of xs)) (λ l. omega arith) (λ l. omega arith) ∙ r)
+
+-- The first place is the library's `position_or_len`.
+chosen : {A : Type 0} (b : Bool) (x y : A) → pick b x y ≡ cond b x y
+chosen true x y = refl
+chosen false x y = refl
+
+pub first_place : (s : Sought) (ws : List ℕ) → first_of s ws ≡ position_or_len (is_sought s) ws
+unfolding first_of
+first_place s ws = is_position_or_len (first_of s) (is_sought s) refl (λ w ws. chosen (is_sought s w) 0 (1 + first_of s ws)) ws
+
+pub has_step : (s : Sought) (w : ℕ) (ws : List ℕ) → has s (w ∷ ws) ≡ is_sought s w || has s ws
+unfolding has first_of
+has_step s w ws = go (is_sought s w)
+  where
+    go : (b : Bool) → ltb (pick b 0 (1 + first_of s ws)) (length (w ∷ ws)) ≡ b || ltb (first_of s ws) (length ws)
+    go true = lt-ltb 0 (length (w ∷ ws)) (omega arith)
+    go false = same_ltb (1 + first_of s ws) (length (w ∷ ws)) (first_of s ws) (length ws) (λ l. omega arith) (λ l. omega arith)
 
 -- What `f64::from_bits` asks.
 pub finite_word : (w : ℕ) → is_sought NotFinite w ≡ false → T (not (nan_bits binary64 w))
@@ -97,7 +117,14 @@ module _ (words run : List ℕ) where
   unfolding copied
   copied_all h = rw (eq-eqb (length run) (length words) h)
 
--- ---- Two runs have the same words exactly where they are one run.
+-- ---- Two runs have the same words exactly where they are one run. The library's `==` says so too.
+pub same_pointwise : (one other : List ℕ) → pointwise eqb one other ≡ same_words one other
+unfolding same_words
+same_pointwise [] [] = refl
+same_pointwise [] (w ∷ ws) = refl
+same_pointwise (v ∷ vs) [] = refl
+same_pointwise (v ∷ vs) (w ∷ ws) = ap (λ (b : Bool). eqb v w && b) (same_pointwise vs ws)
+
 pub both : (a b : Bool) → a && b ≡ true → (a ≡ true) × (b ≡ true)
 both true b e = (refl, e)
 both false b e = absurd (true≢false (sym e))

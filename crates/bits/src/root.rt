@@ -54,6 +54,7 @@ fn root_digits(m: u64) -> u64
     };
     let mut known = next_digit(first, FIELD);
     let mut digit = FIELD / 16;
+    // Not a `for`: it counts its turns besides, and a root takes 3 in 100 more instructions.
     while 0 < digit {
         known = next_digit(known, 8 * digit);
         known = next_digit(known, 4 * digit);
@@ -70,7 +71,7 @@ fn normalised(digits: u64) -> Scaled
     requires { (0 < digits) × (digits < 2 ^ 52) }
     ensures { (result.«digits» * 2 ^ result.power ≡ digits * 2 ^ 52) × (2 ^ 52 ≤ result.«digits») × (result.«digits» < 2 ^ 53) × (result.power ≤ 52) }
 {
-    let up = u64::leading_zeros(digits) as u64 - 11;
+    let up = digits.leading_zeros() as u64 - 11;
     Scaled {
         digits: digits << up,
         power: 52 - up,

@@ -5,7 +5,7 @@ ghost use Rattle.bits.specs.Runs.{is_sought, first_of, has, copied, same_words};
 use super::words::{SIGN, is_finite_word};
 
 // What a run is looked through for: a zero, of either sign, or a double that is not finite.
-#[derive(Clone, Copy)]
+#[derive(Clone, Copy, Debug, PartialEq, Eq)]
 pub enum Sought {
     Zero,
     NotFinite,
@@ -25,34 +25,25 @@ fn is_sought(word: u64, sought: Sought) -> bool
 pub fn first_of(words: &[u64], sought: Sought) -> usize
     ensures { result ≡ first_of sought words.now }
 {
-    let mut number = 0usize;
-    while number < words.len() {
-        if is_sought(words[number], sought) {
-            return number;
-        }
-        number += 1;
-    }
-    number
+    words
+        .iter()
+        .position(|word| is_sought(*word, sought))
+        .unwrap_or(words.len())
 }
 
 // Whether a run has a word that is sought.
 pub fn has(words: &[u64], sought: Sought) -> bool
     ensures { result ≡ has sought words.now }
 {
-    first_of(words, sought) < words.len()
+    words.iter().any(|word| is_sought(*word, sought))
 }
 
 // Copies the words into a run of the same length; a run of another length keeps its own.
 pub fn copy_words(words: &[u64], run: &mut [u64])
     ensures { run.new ≡ copied words.now run.old }
 {
-    if run.len() != words.len() {
-        return;
-    }
-    let mut k = 0usize;
-    while k < words.len() {
-        run[k] = words[k];
-        k += 1;
+    if run.len() == words.len() {
+        run.copy_from_slice(words);
     }
 }
 
@@ -60,15 +51,5 @@ pub fn copy_words(words: &[u64], run: &mut [u64])
 pub fn are_same(one: &[u64], other: &[u64]) -> bool
     ensures { result ≡ same_words one.now other.now }
 {
-    if one.len() != other.len() {
-        return false;
-    }
-    let mut k = 0usize;
-    while k < one.len() {
-        if one[k] != other[k] {
-            return false;
-        }
-        k += 1;
-    }
-    true
+    one == other
 }

@@ -6,6 +6,8 @@ ghost use Rattle.bits.specs.Arithmetic.{is_finite, magnitude};
 ghost use Rattle.bits.specs.Words.{kind_of, place_of};
 ghost use Rattle.bits.specs.Line.{is_nan_word, line_of, word_on};
 
+use std::num::{f64_from_bits_with_nan, f64_to_bits_with_nan};
+
 // The weight of a word's sign bit.
 pub const SIGN: u64 = 0x8000_0000_0000_0000;
 // The weight of the exponent field's lowest bit: one more than the largest number that the 52 digits hold.
@@ -14,7 +16,7 @@ pub const FIELD: u64 = 0x0010_0000_0000_0000;
 pub const INFINITY: u64 = 0x7ff0_0000_0000_0000;
 
 // What the exponent field says of a double.
-#[derive(Clone, Copy)]
+#[derive(Clone, Copy, Debug, PartialEq, Eq)]
 pub enum Kind {
     ZeroOrSubnormal,
     Normal,
@@ -37,38 +39,28 @@ pub fn kind_of(word: u64) -> Kind
 pub fn is_finite_word(word: u64) -> bool
     ensures { result ≡ is_finite (of_bits binary64 word) }
 {
-    match kind_of(word) {
-        Kind::ZeroOrSubnormal => true,
-        Kind::Normal => true,
-        Kind::NotFinite => false,
-    }
+    kind_of(word) != Kind::NotFinite
 }
 
 // The double of any word; every NaN is one value.
 pub fn double_of(word: u64) -> f64
     ensures { result ≡ of_bits binary64 word }
 {
-    if word % SIGN > INFINITY {
-        return 0.0 / 0.0;
-    }
-    f64::from_bits(word)
+    f64_from_bits_with_nan(word)
 }
 
 // Whether a double is neither a NaN nor an infinity.
 pub fn is_finite(x: f64) -> bool
     ensures { result ≡ is_finite x }
 {
-    x < 1.0 / 0.0 && x > -(1.0 / 0.0)
+    x.is_finite()
 }
 
 // The word of a double. Every NaN is one value, and gets one NaN's word.
 pub fn word_of(x: f64) -> u64
     ensures { result ≡ to_bits binary64 x }
 {
-    if x != x {
-        return 0x7ff8_0000_0000_0000;
-    }
-    f64::to_bits(x)
+    f64_to_bits_with_nan(x)
 }
 
 // The place of |x|: its bits as a whole number. The place of a NaN is no number's.
@@ -82,10 +74,7 @@ pub fn place_of(x: f64) -> u64
 pub fn magnitude_of(x: f64) -> f64
     ensures { result ≡ magnitude x }
 {
-    if x != x {
-        return x;
-    }
-    f64::from_bits(f64::to_bits(x) % SIGN)
+    x.abs()
 }
 
 // Whether a word is a NaN's. No double is made of it.
