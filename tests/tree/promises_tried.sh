@@ -58,6 +58,7 @@ pub fn circular(word: u64) -> u64
 }
 SOURCE
 cat >crates/tried/src/answers.rt <<'SOURCE'
+ghost use Rattle.std.specs.Prelude.{◌≡◌};
 mod more;
 pub mod three;
 
@@ -67,6 +68,33 @@ pub fn left(word: u64) -> u64 {
 
 pub fn other(word: u64) -> u64 {
     word
+}
+
+pub trait Tried {
+    fn tried_hollow(&self) -> u64;
+
+    fn tried_whole(&self) -> u64
+        ensures { result ≡ result };
+}
+
+pub struct Word<T> {
+    pub value: T,
+}
+
+impl<T: Copy> Tried for Word<T> {
+    fn tried_hollow(&self) -> u64 {
+        7
+    }
+
+    fn tried_whole(&self) -> u64 {
+        7
+    }
+}
+
+impl<T: Copy> Word<T> {
+    pub fn tried_value(&self) -> T {
+        self.value
+    }
 }
 SOURCE
 cat >crates/tried/src/answers/more.rt <<'SOURCE'
@@ -103,13 +131,13 @@ if TREE=$room sh "$here/tests/tree/promises.sh" >said 2>&1; then
     fail 'all of it passes'
 fi
 {
-    for path in answers.left answers.other answers.three.far answers.more.tried_deep fixed; do
+    for path in answers.left answers.other answers.three.far answers.more.tried_deep answers.Tried.tried_hollow answers.Word.tried_value fixed; do
         echo "promises: tried: $path has no ensures: write what it answers"
     done
     for path in tried_asks tried_never; do
         echo "promises: tried: $path has a requires: what a crate shows asks nothing of its caller, and refuses instead"
     done
-    for path in answers.left answers.other answers.three.far fixed circular; do
+    for path in answers.left answers.other answers.three.far answers.Word.tried_value fixed circular; do
         echo "promises: tried: no law in crates/tried/proofs/OneAnswers.antt says of $path alone that any two answers are equal"
     done
 } | sort >wanted
@@ -130,4 +158,4 @@ grep -qx '! tried: answers.more.tried_exported: a C call of a library is in no a
     cut -c 1-300 said
     fail 'an export in a library is not told'
 }
-echo "promises: of eight functions that are hollow, each in another way, all are told, and the sound one is not; an export in a library is told too"
+echo "promises: of ten functions that are hollow, each in another way, all are told, and the sound one is not; an export in a library is told too"

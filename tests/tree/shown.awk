@@ -4,7 +4,8 @@
 #     awk -v crate=CRATE -v crates=' NAME NAME .. ' -v base=FOLDER -f shown.awk FILE..
 #
 # Prints a line for each public function, however deep: crate, path, "shown" or "kept", "promised" or "-", "asks" where it has a requires or "-".
-# A path has its modules, its type and its name, with dots between. What cannot be followed is a line that begins with "!".
+# A path has its modules, its type and its name, with dots between. The functions of a public trait are kept: each impl of it promises what they do, and no impl
+# has clauses to look at here. What cannot be followed is a line that begins with "!".
 
 # The path of the module that a file is, and of a name in it.
 function module_of(file) {
@@ -85,7 +86,30 @@ function brings_one(path,    alias) {
 
 function trouble(text) { print "! " crate ": " text }
 
-FNR == 1 { module = module_of(FILENAME); depth = 0; type = ""; open_function = ""; ghost = 0 }
+# The type whose functions follow: of a trait's impl the name that rt gives it, else the first word behind the parameters.
+function type_of(line,    at, depth, letter) {
+    if (line ~ / as [A-Za-z0-9_]+ [{]$/) { sub(/ [{]$/, "", line); sub(/^.* as /, "", line); return line }
+    sub(/^impl /, "", line)
+    if (line ~ /^</)
+        for (at = 1; at <= length(line); at++) {
+            letter = substr(line, at, 1)
+            if (letter == "<") depth++
+            if (letter == ">" && --depth == 0) { line = substr(line, at + 2); break }
+        }
+    sub(/ .*/, "", line)
+    return line
+}
+
+function opens(name, of_trait) {
+    depth++
+    kept_type[depth] = type
+    kept_module[depth] = module
+    kept_trait[depth] = trait
+    type = name
+    trait = of_trait
+}
+
+FNR == 1 { module = module_of(FILENAME); depth = 0; type = ""; trait = 0; open_function = ""; ghost = 0 }
 
 # What the logic alone uses, up to its semicolon.
 /^ghost use / { ghost = 1 }
@@ -106,6 +130,7 @@ ghost { if (/;$/) ghost = 0; next }
     if (depth == 0) { trouble(FILENAME ": a bracket closes that none opens: " $0); next }
     type = kept_type[depth]
     module = kept_module[depth]
+    trait = kept_trait[depth]
     depth--
     next
 }
@@ -114,11 +139,18 @@ ghost { if (/;$/) ghost = 0; next }
     name = $1 == "pub" ? $3 : $2
     modules[within(module, name)] = 1
     if ($1 == "pub") inside[module] = inside[module] " " within(module, name)
-    if ($NF == "{") { depth++; kept_type[depth] = type; kept_module[depth] = module; module = within(module, name) }
+    if ($NF == "{") { opens("", 0); module = within(module, name) }
     next
 }
 
-/^impl [A-Za-z0-9_]+ [{]$/ { depth++; kept_type[depth] = type; kept_module[depth] = module; type = $2; next }
+/^impl .*[{]$/ { opens(type_of($0), 0); next }
+
+/^(pub )?trait [A-Za-z0-9_]+ .*[{]$/ {
+    name = $1 == "pub" ? $3 : $2
+    others[within(module, name)] = 1
+    opens(name, $1 == "pub")
+    next
+}
 
 /^pub use / {
     sub(/^pub use /, "")
@@ -137,6 +169,7 @@ ghost { if (/;$/) ghost = 0; next }
     where = within(module, type == "" ? name : type "." name)
     open_function = where
     functions[where] = 1
+    if (trait) public[where] = 1
     if (/^pub (const |unsafe |extern "C" )*fn /) {
         public[where] = 1
         if (type != "") taken[where] = 1     # a method goes with its value
