@@ -1,5 +1,5 @@
 -- The calls keep their demands: what the search promises, carried through results and partials.
-use mathlib.Core.Path.{◌≡◌, refl, ◌∙◌, ap}
+use mathlib.Core.Path.{◌≡◌, refl, sym, ◌∙◌, ap, subst}
 use mathlib.Core.Logic.{◌⊎◌, inl, inr, ⊎_elim}
 use mathlib.Core.Bool.{Bool, true, false, not}
 use mathlib.Core.List.{List}
@@ -8,18 +8,20 @@ use native.Mathlib.Omega.{arith}
 use borrow.Author.Tests.{eq-eqb}
 use lib.Dec.{eqb}
 use lib.ListN.{length}
-use lib.Ieee.{Float, nan, inf, fin, mul, div, of_bits}
+use lib.Ieee.{Float, nan, inf, fin, mul, div, eq, of_bits}
 use Rattle.std.specs.Prelude.{Option, None, Result, Ok, Err}
 use Rattle.bits.specs.Choice.{pick}
 use Rattle.bits.specs.declared.refusal.Refusal.{Refusal}
-use Rattle.bits.specs.declared.refusal.Refusal.TheVariants.{PartialsLength, StartNotFinite, RadiusNotPositive, EndNotFinite}
+use Rattle.bits.specs.declared.refusal.Refusal.TheVariants.{PartialsLength, StartNotFinite, AllShort, Unreadable, RadiusNotPositive, EndNotFinite}
 use Rattle.bits.specs.Arithmetic.{◌⊗◌, ◌⊘◌, n0, is_finite}
-use Rattle.bits.specs.Words.{words_of}
+use Rattle.bits.specs.Words.{place_of, words_of}
+use Rattle.bits.specs.Refusal.{number_of}
 use Rattle.search.specs.Search.{Finding, Proposing}
 use Rattle.series.specs.declared.figures.Anomaly.{Anomaly}
 use Rattle.series.specs.declared.figures.Seconds.{Seconds}
 use Rattle.search_points.specs.Trial.{anomaly_at}
-use Rattle.search.specs.SearchPromise.{used_in, Demand3}
+use Rattle.search.specs.SearchPromise.{used_in, SaysRefused, Says, Promise, Demand3}
+use Rattle.search_rule.specs.Rule.{Proposal}
 use Rattle.search.proofs.Instance.{promise_by, demand3_by}
 use Rattle.states_arcs.specs.Results.{arc_of, ended_of}
 use Rattle.states_arcs.specs.Results as arcs
@@ -80,6 +82,30 @@ length-kept false x run = by_kept x run
 pub unchanged_or_answer : UnchangedOrAnswer
 unfolding partials_by lent_by
 unchanged_or_answer pt pr words run = length-kept (not (eqb (length run) 36)) (reached_words_by pt (searching pr) words) run
+
+-- ---- Refusals 5 and 6: a search is refused by no other.
+said_so : (pr : Proposal) (i : Initial) (tau : Seconds) (first : ℕ) (k : Refusal) → SaysRefused pr i tau first k → (number_of k ≡ 5) ⊎ (number_of k ≡ 6)
+said_so pr i tau first AllShort s = inl refl
+said_so pr i tau first Unreadable s = inr refl
+said_so pr i tau first _ s = absurd s
+
+abbrev pub FiveOrSix : Finding → Type 0
+FiveOrSix (Ok f) = Unit {0}
+FiveOrSix (Err r) = (number_of r.refusal ≡ 5) ⊎ (number_of r.refusal ≡ 6)
+
+pub five_or_six : (pr : Proposing) (i : Initial) (tau : Seconds) (h : Anomaly) → FiveOrSix (searching pr i tau h)
+five_or_six pr i tau h = go (eq tau.0 n0) refl
+  where
+    promise : Promise (pr i tau) i tau h (searching pr i tau h)
+    promise = promise_by (pr i tau) i tau h
+
+    said : (f : Finding) → Says (pr i tau) i tau (place_of h.0) f → FiveOrSix f
+    said (Ok f) x = tt
+    said (Err r) x = said_so (pr i tau) i tau (place_of h.0) r.refusal x
+
+    go : (zero : Bool) → eq tau.0 n0 ≡ zero → FiveOrSix (searching pr i tau h)
+    go true z = subst FiveOrSix (sym (promise.no_interval z)) tt
+    go false z = said _ (promise.interval z).says
 
 -- ---- Demand 3
 

@@ -7,24 +7,15 @@ use Prim.Native.Nat.{ℕ, ◌+◌, ◌<◌, ◌≤◌}
 use native.Mathlib.Omega.{arith}
 use borrow.Author.Tests.{eq-eqb, ne_eqb}
 use lib.ListN.{length}
-use lib.Ieee.{eq}
 use Rattle.std.specs.Prelude.{Result, Ok, Err}
 use Rattle.bits.specs.Choice.{pick}
 use Rattle.bits.specs.Arithmetic.{is_finite}
 use Rattle.bits.specs.Runs.{first_of}
 use Rattle.bits.specs.declared.runs.Sought.TheVariants.{NotFinite}
-use Rattle.bits.specs.Arithmetic.{n0}
-use Rattle.bits.specs.Words.{place_of}
 use Rattle.bits.specs.Refusal.{number_of}
 use Rattle.bits.specs.declared.refusal.Refusal.{Refusal}
 use Rattle.bits.specs.declared.refusal.Refusal.TheVariants.{StartNotFinite}
-use Rattle.bits.specs.declared.refusal.Refusal.TheVariants as reason
-use Rattle.series.specs.declared.figures.Seconds.{Seconds}
-use Rattle.search_points.specs.declared.figures.Initial.{Initial}
-use Rattle.search_rule.specs.Rule.{Proposal}
 use Rattle.search.specs.Search.{Finding, Proposing}
-use Rattle.search.specs.SearchPromise.{SaysRefused, Says, Promise}
-use Rattle.search.proofs.Instance.{promise_by}
 use Rattle.states_revolutions.specs.declared.figures.WholeInterval.{WholeInterval}
 use Rattle.states_revolutions.specs.declared.figures.Interval.{Interval}
 use Rattle.states_arcs.specs.Results.{results_of, ended_of}
@@ -40,7 +31,7 @@ use Rattle.states_start.proofs.StartLaws.{names_first, first_bad, refused_first,
 use Rattle.states.specs.Call.{searching, Parting, Reaching, Answering, refused, refusal_of, orbit_words, reached_found, reached_over_by, reached_from_by, reached_begun_by, reached_orbit_by, reached_read_by, reached_words_by, answer_from, propagate_by}
 use Rattle.states.specs.WithPartials.{partials_from, partials_by}
 use Rattle.states.specs.CallPromise.{NamesBad, NamesFigure, ByName, CallsName}
-use Rattle.states.proofs.CallPromise.{Settled, settled, settled_with}
+use Rattle.states.proofs.CallPromise.{FiveOrSix, five_or_six, Settled, settled, settled_with}
 
 -- ---- The numbers that a call of eight finite words can give: 0, or 3 to 8.
 abbrev Other : ℕ → Type 0
@@ -50,39 +41,15 @@ abbrev OtherIn : Reaching → Type 0
 OtherIn (Err r) = Other (number_of r.refusal)
 OtherIn (Ok x) = Unit {0}
 
--- A search is refused by 5 or 6,
-said_other : (pr : Proposal) (i : Initial) (tau : Seconds) (first : ℕ) (k : Refusal) → SaysRefused pr i tau first k → Other (number_of k)
-said_other pr i tau first reason.AllShort s = inr (omega arith, omega arith)
-said_other pr i tau first reason.Unreadable s = inr (omega arith, omega arith)
-said_other pr i tau first _ s = absurd s
-
-abbrev OtherFound : Finding → Type 0
-OtherFound (Err r) = Other (number_of r.refusal)
-OtherFound (Ok f) = Unit {0}
-
-search_other : (pr : Proposing) (i : Initial) (tau : Seconds) → OtherFound (searching pr i tau (first_step_of i tau))
-search_other pr i tau = go (eq tau.0 n0) refl
-  where
-    promise : Promise (pr i tau) i tau (first_step_of i tau) (searching pr i tau (first_step_of i tau))
-    promise = promise_by (pr i tau) i tau (first_step_of i tau)
-
-    said : (f : Finding) → Says (pr i tau) i tau (place_of (first_step_of i tau).0) f → OtherFound f
-    said (Ok f) x = tt
-    said (Err r) x = said_other (pr i tau) i tau (place_of (first_step_of i tau).0) r.refusal x
-
-    go : (zero : Bool) → eq tau.0 n0 ≡ zero → OtherFound (searching pr i tau (first_step_of i tau))
-    go true z = subst OtherFound (sym (promise.no_interval z)) tt
-    go false z = said _ (promise.interval z).says
+found_other : (s : Start) (d : Interval) (x : Finding) → FiveOrSix x → OtherIn (reached_found s d x)
+unfolding reached_found
+found_other s d (Ok f) h = tt
+found_other s d (Err r) h = ⊎_elim (λ e. inr (omega arith, omega arith)) (λ e. inr (omega arith, omega arith)) h
 
 module _ (pr : Proposing) (s : Start) (d : Interval) where
-  found_other : (x : Finding) → OtherFound x → OtherIn (reached_found s d x)
-  unfolding reached_found
-  found_other (Ok f) h = tt
-  found_other (Err r) h = h
-
   over_other : OtherIn (reached_over_by (searching pr) s d)
   unfolding reached_over_by
-  over_other = go (not (is_finite (first_step_of s.initial d.searched).0)) _ (found_other _ (search_other pr s.initial d.searched))
+  over_other = go (not (is_finite (first_step_of s.initial d.searched).0)) _ (found_other s d _ (five_or_six pr s.initial d.searched (first_step_of s.initial d.searched)))
     where
       go : (t : Bool) (x : Reaching) → OtherIn x → OtherIn (pick t (refused StartNotFinite 0) x)
       go true x h = inr (omega arith, omega arith)

@@ -1,18 +1,15 @@
 -- What an accepted row is, in document 02's words (T-06), and what that means beside our own call.
-use Rattle.std.specs.Prelude.{◌≡◌, true, List, ◌⊎◌, ℕ, ◌≤◌, take, drop, get_or}
+use Rattle.std.specs.Prelude.{◌≡◌, true, List, ◌⊎◌, ℕ, ◌≤◌, take, drop, get_or, Ok}
 use Rattle.std.specs.Float.{binary64}
 use Rattle.std.specs.Float.Ieee.{to_bits}
-use Rattle.search.specs.Search.{Proposing, search_by}
-use Rattle.search.specs.declared.figures.Finding.TheVariants as finding
+use Rattle.search.specs.Search.{found_with, Proposing, search_by}
 use Rattle.search_check.specs.Right.{Right}
 use Rattle.states_revolutions.specs.Revolutions.{interval_of}
 use Rattle.states_start.specs.Initial.{first_step_of}
 use Rattle.states_arcs.specs.Results.{arc_of, ended_of}
 use Rattle.states_arcs.specs.declared.figures.Results.{Results}
-use Rattle.states_arcs.specs.declared.figures.Ended.TheVariants as ended
-use Rattle.states.specs.Call.{answer_words, propagate_by}
+use Rattle.states.specs.Call.{Answering, refusal_of, results_of, answer_words, propagate_by}
 use Rattle.states.specs.CallPromise.{Searches, interval_in, searched_in}
-use Rattle.states.specs.declared.figures.Answer.{Answer}
 use Rattle.states_check.specs.Row.{nine_words, proposed, accepts}
 
 -- "Yes exactly when refusals 31 to 38, 3 and 4 don't apply, the anomaly is +0 for zero τ, or otherwise has the sign of τ and is exact, or is the answer T-01
@@ -25,7 +22,7 @@ pub record Acceptable (given : List ℕ) (anomaly : ℕ) (nine : List ℕ) : Typ
   pub right : Right searches.start.initial (searched_in searches) anomaly
   -- 7 and 8 don't apply at the anomaly, and these are the results. 8 is about all that the call answers, also the start's acceleration, which no row carries.
   pub results : Results
-  pub ends : ended_of (arc_of searches.start (interval_in searches) (proposed anomaly)) ≡ ended.Results results
+  pub ends : ended_of (arc_of searches.start (interval_in searches) (proposed anomaly)) ≡ Ok results
   pub figures : nine_words results ≡ nine
 
 pub record AcceptsSo (given : List ℕ) (anomaly : ℕ) (nine : List ℕ) : Type 0 where
@@ -38,37 +35,37 @@ AcceptsExactly = (given : List ℕ) (anomaly : ℕ) (nine : List ℕ) → Accept
 -- ---- "Every row we ourselves answer must be accepted."
 
 -- The anomaly and the nine figures of an answer, which a row carries beside its input.
-abbrev pub anomaly_in : Answer → ℕ
-anomaly_in a = to_bits binary64 a.results.psi.0
+abbrev pub anomaly_in : Answering → ℕ
+anomaly_in a = to_bits binary64 (results_of a).psi.0
 
-abbrev pub nine_in : Answer → List ℕ
-nine_in a = nine_words a.results
+abbrev pub nine_in : Answering → List ℕ
+nine_in a = nine_words (results_of a)
 
 -- They are among the fifteen words that the call answers: ψ is the last; position, velocity and end acceleration are the nine after the refusal and the points.
-pub record InAnswer (a : Answer) : Type 0 where
+pub record InAnswer (a : Answering) : Type 0 where
   pub anomaly : anomaly_in a ≡ get_or (answer_words a) 14 0
   pub nine : nine_in a ≡ take 9 (drop 2 (answer_words a))
 
 abbrev pub OwnWords : Type 0
-OwnWords = (a : Answer) → InAnswer a
+OwnWords = (a : Answering) → InAnswer a
 
 -- Whatever formula proposes the inner points of the search: so the rows of a station that tries another one are accepted too.
 abbrev pub AcceptsOwn : Type 0
 AcceptsOwn =
-    (pr : Proposing) (given : List ℕ) → let a = propagate_by interval_of pr given in a.refusal ≡ 0 →
+    (pr : Proposing) (given : List ℕ) → let a = propagate_by interval_of pr given in refusal_of a ≡ 0 →
     accepts given (anomaly_in a) (nine_in a) ≡ true
 
 -- ---- Our own call on the input of an accepted row is not refused by 31 to 38, 3 or 4, nor at the row's anomaly by 7 or 8,
 -- whatever formula proposes its inner points.
 pub record BesideCall (pr : Proposing) (given : List ℕ) (anomaly : ℕ) (nine : List ℕ) (s : Searches interval_of given) : Type 0 where
   -- Nothing before the search refuses it: it answers, or its refusal is one of 5 to 8.
-  pub after_search : let a = propagate_by interval_of pr given in (a.refusal ≡ 0) ⊎ ((5 ≤ a.refusal) × (a.refusal ≤ 8))
+  pub after_search : let a = propagate_by interval_of pr given in (refusal_of a ≡ 0) ⊎ ((5 ≤ refusal_of a) × (refusal_of a ≤ 8))
   -- Where its search finds the row's anomaly, it is not refused by 7 or 8 either: it answers, and with the row's figures.
   pub at_anomaly :
       let i = s.start.initial in
       let tau = searched_in s in
       let a = propagate_by interval_of pr given in
-      (n : ℕ) → search_by (pr i tau) i tau (first_step_of i tau) ≡ finding.Found (proposed anomaly) n → (a.refusal ≡ 0) × (nine_in a ≡ nine)
+      (n : ℕ) → search_by (pr i tau) i tau (first_step_of i tau) ≡ found_with (proposed anomaly) n → (refusal_of a ≡ 0) × (nine_in a ≡ nine)
 
 abbrev pub NotBeforeSearch : Type 0
 NotBeforeSearch =

@@ -5,41 +5,38 @@
 ghost use Rattle.std.specs.Prelude.{◌≡◌};
 ghost use Rattle.states_check.specs.Row.{ends_with, accepts_at, accepts};
 
+use bits::Refusal;
 use bits::words::double_of;
 use search_check::is_right;
 use series::Anomaly;
-use states::{Reached, Seeking, reach};
-use states_arcs::{Arc, Ended, ended, figures_of};
+use states::{Seeking, reach};
+use states_arcs::{Arc, Results, ended, figures_of};
 
 // Whether an arc ends with these nine words, and not with refusal 7 or 8.
-fn ends_with(end: Ended, nine: [u64; 9]) -> bool
+fn ends_with(end: Result<Results, Refusal>, nine: [u64; 9]) -> bool
     ensures { result ≡ ends_with end nine }
 {
-    match end {
-        Ended::Results(results) => {
-            let figures = figures_of(results);
-            bits::are_same(&figures[..9], &nine)
-        }
-        Ended::Refused(_) => false,
-    }
+    let Ok(results) = end else {
+        return false;
+    };
+    bits::are_same(&figures_of(results)[..9], &nine)
 }
 
 // Whether the anomaly of an arc is right for the interval that is searched, and the arc ends with these nine words.
+#[tactic(auto, unfolding(crate::specs::Row::accepts_at))]
 fn accepts_at(arc: Arc, anomaly: u64, nine: [u64; 9]) -> bool
     ensures { result ≡ accepts_at arc anomaly nine }
 {
-    if is_right(arc.start.initial, arc.interval.searched, anomaly) {
-        return ends_with(ended(arc), nine);
-    }
-    false
+    is_right(arc.start.initial, arc.interval.searched, anomaly) && ends_with(ended(arc), nine)
 }
 
 // Whether a row is accepted: `given` are its eight input words, `nine` its position, velocity and end acceleration. Its steps are the call's, without a search.
+#[tactic(auto, unfolding(crate::specs::Row::accepts))]
 pub fn accepts(given: [u64; 8], anomaly: u64, nine: [u64; 9]) -> bool
     ensures { result ≡ accepts given anomaly nine }
 {
-    match reach(given, Seeking::Given(Anomaly(double_of(anomaly)))) {
-        Reached::End(arc, _) => accepts_at(arc, anomaly, nine),
-        Reached::Refused(_, _) => false,
-    }
+    let Ok(reached) = reach(given, Seeking::Given(Anomaly(double_of(anomaly)))) else {
+        return false;
+    };
+    accepts_at(reached.arc, anomaly, nine)
 }
