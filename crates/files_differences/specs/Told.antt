@@ -1,9 +1,10 @@
 -- Document 02, T-07: what a comparison says of a figure, of a row and of the largest distance, and the words of each case.
-use Rattle.std.specs.Prelude.{Bool, ◌&&◌, List, [], ◌∷◌, ℕ, eqb, ltb}
+use Rattle.std.specs.Prelude.{Bool, ◌&&◌, List, [], ◌∷◌, ℕ, Option, Some, None, Result, Ok, Err, eqb, ltb}
 use Rattle.std.specs.Float.{binary64}
 use Rattle.std.specs.Float.Ieee.{of_bits}
 use Rattle.bits.specs.Choice.{pick}
 use Rattle.bits.specs.Arithmetic.{is_finite}
+use Rattle.bits.specs.Refusal.{number_of}
 use Rattle.files_formats.specs.Rows.{result_width}
 use Rattle.files_differences.specs.Distance.{distance_of}
 use Rattle.files_differences.specs.declared.told.RowKind.{RowKind}
@@ -11,11 +12,10 @@ use Rattle.files_differences.specs.declared.told.RowKind.TheVariants as kind
 use Rattle.files_differences.specs.declared.told.Figure.{Figure}
 use Rattle.files_differences.specs.declared.told.Figure.TheVariants as figure
 use Rattle.files_differences.specs.declared.told.Largest.{Largest}
-use Rattle.files_differences.specs.declared.told.Largest.TheVariants as largest
 use Rattle.files_differences.specs.declared.told.Side.{Side}
 use Rattle.files_differences.specs.declared.told.Side.TheVariants as side
-use Rattle.files_differences.specs.declared.told.Comparison.{Comparison}
-use Rattle.files_differences.specs.declared.told.Comparison.TheVariants as comparison
+use Rattle.files_differences.specs.declared.told.Compared.{Compared}
+use Rattle.files_differences.specs.declared.told.Refused.{Refused}
 
 -- ---- Rows. "A row is refused when its first word isn't 0. Rows where just one side refused are listed apart", by kinds of their own. "Rows refused on both
 -- sides tell only whether the numbers agree." By the rows' first words:
@@ -60,30 +60,33 @@ figure_words figure.Untold = 3 ∷ 0 ∷ []
 
 -- ---- "the row and word of the first largest distance". What is known of it so far, and one figure more, which replaces only a smaller
 -- distance: so the first of the largest stays.
-abbrev pub first_larger : Largest → (row word d : ℕ) → Largest
-first_larger largest.Nowhere row word d = largest.At row word d
-first_larger (largest.At r w most) row word d = pick (ltb most d) (largest.At row word d) (largest.At r w most)
+abbrev pub at : (row word d : ℕ) → Largest
+at row word d = record { row = row; word = word; distance = d }
 
-abbrev pub largest_with : Largest → (row word : ℕ) → Figure → Largest
+abbrev pub first_larger : Option Largest → (row word d : ℕ) → Option Largest
+first_larger None row word d = Some (at row word d)
+first_larger (Some l) row word d = pick (ltb l.distance d) (Some (at row word d)) (Some l)
+
+abbrev pub largest_with : Option Largest → (row word : ℕ) → Figure → Option Largest
 largest_with known row word (figure.Distance d) = first_larger known row word d
 largest_with known row word figure.EqualBits = known
 largest_with known row word figure.UnequalBits = known
 largest_with known row word figure.Untold = known
 
 -- "both from 0; the row count and 11 where no figure has one": row, word and distance.
-abbrev pub largest_words : (count : ℕ) → Largest → List ℕ
-largest_words count largest.Nowhere = count ∷ result_width ∷ 0 ∷ []
-largest_words count (largest.At row word d) = row ∷ word ∷ d ∷ []
+abbrev pub largest_words : (count : ℕ) → Option Largest → List ℕ
+largest_words count None = count ∷ result_width ∷ 0 ∷ []
+largest_words count (Some l) = l.row ∷ l.word ∷ l.distance ∷ []
 
 -- ---- The answer's seven words: refusal, side, place, row count, then row, word and distance of the first largest distance. In a refusal the last four are 0.
-abbrev pub side_word : Side → ℕ
-side_word side.Neither = 0
-side_word side.Left = 0
-side_word side.Right = 1
+abbrev pub side_word : Option Side → ℕ
+side_word None = 0
+side_word (Some side.Left) = 0
+side_word (Some side.Right) = 1
 
-abbrev pub compared_words : (count : ℕ) → Largest → List ℕ
+abbrev pub compared_words : (count : ℕ) → Option Largest → List ℕ
 compared_words count l = 0 ∷ 0 ∷ 0 ∷ count ∷ largest_words count l
 
-unfoldable pub comparison_words : Comparison → List ℕ
-comparison_words (comparison.Compared count l) = compared_words count l
-comparison_words (comparison.Refused number s place) = number ∷ side_word s ∷ place ∷ 0 ∷ 0 ∷ 0 ∷ 0 ∷ []
+unfoldable pub comparison_words : Result Compared Refused → List ℕ
+comparison_words (Ok c) = compared_words c.count c.largest
+comparison_words (Err r) = number_of r.refusal ∷ side_word r.side ∷ r.place ∷ 0 ∷ 0 ∷ 0 ∷ 0 ∷ []

@@ -6,6 +6,6 @@ pub mod told;
 
 pub use distance::distance_of;
 pub use told::{
-    Comparison, Figure, Largest, RowKind, Side, figure_in, figure_words, largest_with, row_kind_of,
-    row_kind_word, words_of,
+    Compared, Figure, Largest, Refused, RowKind, Side, figure_in, figure_words, largest_with,
+    row_kind_of, row_kind_word, words_of,
 };

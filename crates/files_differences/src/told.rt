@@ -3,7 +3,6 @@ ghost use Rattle.std.specs.Prelude.{◌≡◌};
 ghost use Rattle.files_differences.specs.Told.{
   row_kind_of,
   row_kind_word,
-  both_finite,
   figure_of,
   figure_in,
   figure_words,
@@ -15,21 +14,22 @@ ghost use Rattle.files_differences.specs.Told.{
 };
 
 use crate::distance::distance_of;
+use bits::Refusal;
 use bits::words::is_finite_word;
 use files_formats::rows::RESULT_WIDTH;
 
 // What two rows are: answered on both sides, refused on one alone, or on both, with the same number or different ones.
-#[derive(Clone, Copy)]
+#[derive(Clone, Copy, Debug, PartialEq, Eq)]
 pub enum RowKind {
-    Answered,
-    LeftRefused,
-    RightRefused,
-    RefusedAlike,
-    RefusedUnlike,
+    Answered = 0,
+    LeftRefused = 1,
+    RightRefused = 2,
+    RefusedAlike = 3,
+    RefusedUnlike = 4,
 }
 
 // What a comparison says of a figure: how many last places it moved; where a side is not finite, whether the bits are the same; nothing where a row is refused.
-#[derive(Clone, Copy)]
+#[derive(Clone, Copy, Debug, PartialEq, Eq)]
 pub enum Figure {
     Distance(u64),
     EqualBits,
@@ -37,92 +37,69 @@ pub enum Figure {
     Untold,
 }
 
-// The first largest distance, and where it is, if any figure has a distance.
-#[derive(Clone, Copy)]
-pub enum Largest {
-    Nowhere,
-    At {
-        row: usize,
-        word: usize,
-        distance: u64,
-    },
+// A largest distance, and where it is.
+#[derive(Clone, Copy, Debug, PartialEq, Eq)]
+pub struct Largest {
+    pub row: usize,
+    pub word: usize,
+    pub distance: u64,
 }
 
-// The file that is refused, if it is one of the two.
-#[derive(Clone, Copy)]
+// One of the two files.
+#[derive(Clone, Copy, Debug, PartialEq, Eq)]
 pub enum Side {
-    Neither,
     Left,
     Right,
 }
 
-// The answer for two files.
-#[derive(Clone, Copy)]
-pub enum Comparison {
-    Compared {
-        count: usize,
-        largest: Largest,
-    },
-    Refused {
-        number: u64,
-        side: Side,
-        place: usize,
-    },
+// What is said of two files: the count of rows, and the first largest distance, if any figure has a distance.
+#[derive(Clone, Copy, Debug, PartialEq, Eq)]
+pub struct Compared {
+    pub count: usize,
+    pub largest: Option<Largest>,
+}
+
+// Why two files are not compared: the refusal, the file that is refused, if it is one of the two, and its place.
+#[derive(Clone, Copy, Debug, PartialEq, Eq)]
+pub struct Refused {
+    pub refusal: Refusal,
+    pub side: Option<Side>,
+    pub place: usize,
 }
 
 // What two rows are, by the first word of each.
+#[tactic(auto, unfolding(crate::specs::Told::row_kind_of))]
 pub fn row_kind_of(left: u64, right: u64) -> RowKind
     ensures { result ≡ row_kind_of left right }
 {
-    if left == 0 {
-        if right == 0 {
-            return RowKind::Answered;
-        }
-        return RowKind::RightRefused;
+    match (left, right) {
+        (0, 0) => RowKind::Answered,
+        (0, _) => RowKind::RightRefused,
+        (_, 0) => RowKind::LeftRefused,
+        _ if left == right => RowKind::RefusedAlike,
+        _ => RowKind::RefusedUnlike,
     }
-    if right == 0 {
-        return RowKind::LeftRefused;
-    }
-    if left == right {
-        return RowKind::RefusedAlike;
-    }
-    RowKind::RefusedUnlike
 }
 
 // The word of a row's kind.
 pub fn row_kind_word(kind: RowKind) -> u64
     ensures { result ≡ row_kind_word kind }
 {
-    match kind {
-        RowKind::Answered => 0,
-        RowKind::LeftRefused => 1,
-        RowKind::RightRefused => 2,
-        RowKind::RefusedAlike => 3,
-        RowKind::RefusedUnlike => 4,
-    }
-}
-
-// Whether a figure is finite on both sides.
-fn both_finite(left: u64, right: u64) -> bool
-    ensures { result ≡ both_finite left right }
-{
-    if is_finite_word(left) {
-        return is_finite_word(right);
-    }
-    false
+    kind as u64
 }
 
 // What is said of a figure in rows that are answered, by its two words.
+#[tactic(auto, unfolding(crate::specs::Told::figure_of))]
 fn figure_of(left: u64, right: u64) -> Figure
     ensures { result ≡ figure_of left right }
 {
-    if both_finite(left, right) {
-        return Figure::Distance(distance_of(left, right));
+    if is_finite_word(left) && is_finite_word(right) {
+        Figure::Distance(distance_of(left, right))
+    } else if left == right {
+        Figure::EqualBits
+    } else {
+        Figure::UnequalBits
     }
-    if left == right {
-        return Figure::EqualBits;
-    }
-    Figure::UnequalBits
 }
 
 // What is said of a figure in any two rows.
@@ -131,10 +108,7 @@ pub fn figure_in(kind: RowKind, left: u64, right: u64) -> Figure
 {
     match kind {
         RowKind::Answered => figure_of(left, right),
-        RowKind::LeftRefused => Figure::Untold,
-        RowKind::RightRefused => Figure::Untold,
-        RowKind::RefusedAlike => Figure::Untold,
-        RowKind::RefusedUnlike => Figure::Untold,
+        _ => Figure::Untold,
     }
 }
 
@@ -151,79 +125,80 @@ pub fn figure_words(figure: Figure) -> [u64; 2]
 }
 
 // The first largest of a distance and those before it.
-fn first_larger(known: Largest, row: usize, word: usize, distance: u64) -> Largest
-    ensures { result ≡ first_larger known row word distance }
+fn first_larger(known: Option<Largest>, next: Largest) -> Option<Largest>
+    ensures { result ≡ first_larger known next.row next.word next.distance }
 {
     match known {
-        Largest::Nowhere => Largest::At {
-            row,
-            word,
-            distance,
-        },
-        Largest::At {
-            row: _,
-            word: _,
-            distance: most,
-        } => {
-            if most < distance {
-                return Largest::At {
-                    row,
-                    word,
-                    distance,
-                };
-            }
-            known
-        }
+        Some(largest) if next.distance <= largest.distance => known,
+        _ => Some(next),
     }
 }
 
 // The first largest distance with one figure more, behind the others.
-pub fn largest_with(known: Largest, row: usize, word: usize, figure: Figure) -> Largest
+pub fn largest_with(
+    known: Option<Largest>,
+    row: usize,
+    word: usize,
+    figure: Figure,
+) -> Option<Largest>
     ensures { result ≡ largest_with known row word figure }
 {
     match figure {
-        Figure::Distance(distance) => first_larger(known, row, word, distance),
-        Figure::EqualBits => known,
-        Figure::UnequalBits => known,
-        Figure::Untold => known,
+        Figure::Distance(distance) => first_larger(
+            known,
+            Largest {
+                row,
+                word,
+                distance,
+            },
+        ),
+        _ => known,
     }
 }
 
 // The seven words of files that are compared: no refusal, the count of rows, and the first largest distance, if there is one.
-fn compared_words(count: usize, largest: Largest) -> [u64; 7]
+fn compared_words(count: usize, largest: Option<Largest>) -> [u64; 7]
     ensures { result ≡ compared_words count largest }
 {
-    match largest {
-        Largest::Nowhere => [0, 0, 0, count as u64, count as u64, RESULT_WIDTH as u64, 0],
-        Largest::At {
-            row,
-            word,
-            distance,
-        } => [0, 0, 0, count as u64, row as u64, word as u64, distance],
-    }
+    let none = Largest {
+        row: count,
+        word: RESULT_WIDTH,
+        distance: 0,
+    };
+    let told = largest.unwrap_or(none);
+    [
+        0,
+        0,
+        0,
+        count as u64,
+        told.row as u64,
+        told.word as u64,
+        told.distance,
+    ]
 }
 
-// The word of a side.
-fn side_word(side: Side) -> u64
+// The word of a side, 1 where it is the right one.
+fn side_word(side: Option<Side>) -> u64
     ensures { result ≡ side_word side }
 {
-    match side {
-        Side::Neither => 0,
-        Side::Left => 0,
-        Side::Right => 1,
-    }
+    u64::from(side == Some(Side::Right))
 }
 
 // The seven words of an answer: refusal, side, place, the count of rows, then row, word and distance of the first largest distance.
-pub fn words_of(comparison: Comparison) -> [u64; 7]
+#[tactic(auto, unfolding(crate::specs::Told::comparison_words))]
+pub fn words_of(comparison: Result<Compared, Refused>) -> [u64; 7]
     ensures { result ≡ comparison_words comparison }
 {
     match comparison {
-        Comparison::Compared { count, largest } => compared_words(count, largest),
-        Comparison::Refused {
-            number,
-            side,
-            place,
-        } => [number, side_word(side), place as u64, 0, 0, 0, 0],
+        Ok(compared) => compared_words(compared.count, compared.largest),
+        Err(refused) => [
+            u64::from(refused.refusal),
+            side_word(refused.side),
+            refused.place as u64,
+            0,
+            0,
+            0,
+            0,
+        ],
     }
 }
