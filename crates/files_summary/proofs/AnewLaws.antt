@@ -2,7 +2,9 @@
 -- nothing.
 use mathlib.Core.Path.{◌≡◌, refl, sym, subst, ◌∙◌}
 use mathlib.Core.List.{List}
-use Prim.Native.Nat.{ℕ, zero, suc, ◌+◌, ◌*◌, ◌≤◌}
+use Rattle.std.specs.Prelude.{⊤, Result, Ok, Err}
+use Prim.Native.Nat.{ℕ, suc, ◌+◌, ◌*◌, ◌≤◌}
+use Rattle.bits.specs.declared.refusal.Refusal.{Refusal}
 use native.Mathlib.Omega.{arith}
 use lib.ListN.{length, set, length-set}
 use lib.Seq.{get_or-set_same, get_or-set_other}
@@ -11,10 +13,10 @@ use Rattle.files_records.proofs.RecordLaws.{record_put_lem, words_before, words_
 use Rattle.files_formats.specs.Rows.{entry_width}
 use Rattle.files_summary.specs.declared.entries.Summary.{Summary}
 use Rattle.files_summary.specs.Entries.{state_width, centre_entry, no_entry, entry_words}
-use Rattle.files_summary.specs.Changes.{one_each, Asked, append, withdraw, run_asked, count_asked, refused, changed, if_made, change_of, run_of, settled_by, put_entry}
+use Rattle.files_summary.specs.Changes.{one_each, Asked, append, withdraw, run_asked, count_asked, refusal_of, ◌⟫◌, changed, if_made, change_of, run_of, count_after, settled_by, put_entry}
 use Rattle.files_summary.specs.Kept.{Kept, counting, change_by, refusal_beside, centre_beside, kept_states, kept_entry}
 use Rattle.files_summary.specs.Kept.{states_asked, ChangesAsAsked, WorksOutAnew, Anew, AnewInWords, RefusedStays}
-use Rattle.files_summary.proofs.RefusalLaws.{has_room, appendable, withdrawable, granted}
+use Rattle.files_summary.proofs.RefusalLaws.{accepted, has_room, appendable, withdrawable, granted}
 use Rattle.files_summary.proofs.ChangeLaws.{if_refused, if_made_lem, within_list}
 use Rattle.files_summary.proofs.StateLaws.{states_move}
 
@@ -28,22 +30,25 @@ module _ {A : Type 0} (each : ℕ) (store : List A → ℕ → Summary → List 
       let c = centre_beside asked k in
       record { run = run; roster = counting k.roster count; list = store k.list c (centre_entry edition c (records_of (state_width edition) run count)) }
 
-  change_is : change_by each store asked k ≡ if_made (refusal_beside each asked k) k done
+  abbrev its_refusal : Result ⊤ Refusal
+  its_refusal = refusal_of asked k.run k.roster (one_each each (length k.list) k.roster.centres)
+
+  change_is : change_by each store asked k ≡ if_made its_refusal k done
   unfolding change_by change_of run_of
-  change_is = go (refusal_beside each asked k)
+  change_is = go its_refusal
     where
-      go : (n : ℕ) →
+      go : (r : Result ⊤ Refusal) →
           let run = run_asked asked k.run k.roster in
-          let change = if_made n (refused n k.roster.count) (changed k.roster.edition run (count_asked asked k.roster) (centre_beside asked k)) in
-          record { run = if_made n k.run run; roster = counting k.roster change.count; list = settled_by store k.list change } ≡ if_made n k done
-      go zero = refl
-      go (suc n) = refl
+          let change = r ⟫ Ok (changed k.roster.edition run (count_asked asked k.roster) (centre_beside asked k)) in
+          record { run = if_made r k.run run; roster = counting k.roster (count_after change k.roster.count); list = settled_by store k.list change } ≡ if_made r k done
+      go (Ok _) = refl
+      go (Err refusal) = refl
 
   pub made : refusal_beside each asked k ≡ 0 → change_by each store asked k ≡ done
-  made e = change_is ∙ sym (if_made_lem (refusal_beside each asked k) k done e)
+  made e = change_is ∙ sym (if_made_lem its_refusal k done e)
 
   pub not_made : (refusal_beside each asked k ≡ 0 → ⊥) → change_by each store asked k ≡ k
-  not_made h = change_is ∙ sym (if_refused (refusal_beside each asked k) k done h)
+  not_made h = change_is ∙ sym (if_refused its_refusal k done h)
 
   -- The states in use are as it was asked.
   pub as_asked : refusal_beside each asked k ≡ 0 → kept_states done ≡ states_asked asked (kept_states k)
@@ -52,17 +57,17 @@ module _ {A : Type 0} (each : ℕ) (store : List A → ℕ → Summary → List 
       go : (asked : Asked) → refusal_beside each asked k ≡ 0
           → records_of (state_width k.roster.edition) (run_asked asked k.run k.roster) (count_asked asked k.roster) ≡ states_asked asked (kept_states k)
       go (append state) e =
-          let a = appendable state (length k.run) k.roster (one_each each (length k.list) k.roster.centres) e in
+          let a = appendable state (length k.run) k.roster (one_each each (length k.list) k.roster.centres) (accepted _ e) in
           let room = has_room (length k.run) k.roster (one_each each (length k.list) k.roster.centres) a.lent (k.roster.count + 1) (omega (arith, a.not_full)) in
           ((states_move (state_width k.roster.edition) k.run k.roster.count).0 state a.one_record room).last_of_them
       go (withdraw which) e =
-          let a = withdrawable which k.run k.roster (one_each each (length k.list) k.roster.centres) e in
+          let a = withdrawable which k.run k.roster (one_each each (length k.list) k.roster.centres) (accepted _ e) in
           let room = has_room (length k.run) k.roster (one_each each (length k.list) k.roster.centres) a.lent k.roster.count a.lent.few in
           ((states_move (state_width k.roster.edition) k.run k.roster.count).1 which a.there room).down_one
 
   -- The centre of a change that is made has its entry.
   pub has_entry : refusal_beside each asked k ≡ 0 → suc (centre_beside asked k) * each ≤ length k.list
-  has_entry e = let g = granted asked k.run k.roster (one_each each (length k.list) k.roster.centres) e in within_list each g.0 g.1
+  has_entry e = let g = granted asked k.run k.roster (one_each each (length k.list) k.roster.centres) (accepted _ e) in within_list each g.0 g.1
 
 pub refused_stays : RefusedStays
 refused_stays A each store asked k h = not_made each store asked k h

@@ -1,11 +1,12 @@
 -- A state that is appended and then withdrawn leaves the states in use as they were.
 use mathlib.Core.Path.{◌≡◌, refl, sym, ap, subst, ◌∙◌}
-use mathlib.Core.Bool.{Bool, true}
+use mathlib.Core.Bool.{Bool}
 use mathlib.Core.List.{List, [], ◌∷◌, ◌++◌}
 use Prim.Native.Nat.{ℕ, zero, suc, ◌+◌, ◌-◌, ◌*◌, ◌<◌, ◌≤◌}
 use native.Mathlib.Omega.{arith}
 use borrow.Author.Tests.{lt-ltb}
 use lib.ListN.{length}
+use Rattle.bits.specs.Refusal.{number_in}
 use Rattle.files_records.specs.Records.{without}
 use Rattle.files_records.proofs.RecordLaws.{length_records, record_put_lem, length-record_put}
 use Rattle.files_summary.specs.declared.entries.Roster.{Roster}
@@ -13,7 +14,7 @@ use Rattle.files_summary.specs.declared.entries.Summary.{Summary}
 use Rattle.files_summary.specs.Entries.{state_width, centre_of}
 use Rattle.files_summary.specs.Changes.{one_each, withdraw_refusal, state_at, append, withdraw}
 use Rattle.files_summary.specs.Kept.{Kept, counting, change_by, changes_by, refusal_beside, kept_states, kept_entry, GivenBack}
-use Rattle.files_summary.proofs.RefusalLaws.{has_room, appendable, withdraw_by, Withdrawable}
+use Rattle.files_summary.proofs.RefusalLaws.{accepted, has_room, appendable, lent_none, Withdrawable}
 use Rattle.files_summary.proofs.AnewLaws.{done, made, as_asked}
 
 -- The last of a list, appended and left out.
@@ -25,10 +26,10 @@ without_last (y ∷ ys) x zero e = absurd (omega (arith, e))
 without_last (y ∷ ys) x (suc n) e = ap (λ l. y ∷ l) (without_last ys x n (omega (arith, e)))
 
 -- One is withdrawn where all tests hold.
-withdraw_passes : (which : ℕ) (run : List ℕ) (roster : Roster) (listed : Bool) → Withdrawable which run roster listed → withdraw_refusal which run roster listed ≡ 0
+withdraw_passes : (which : ℕ) (run : List ℕ) (roster : Roster) (listed : Bool) → Withdrawable which run roster listed → number_in (withdraw_refusal which run roster listed) ≡ 0
+unfolding withdraw_refusal
 withdraw_passes which run roster listed w =
-    sym (withdraw_by which run roster listed true w.lent (lt-ltb which roster.count w.there))
-    ∙ rw (lt-ltb (centre_of roster.edition (state_at roster.edition run which)) roster.centres w.has_centre)
+    rw (lent_none (length run) roster listed w.lent, lt-ltb which roster.count w.there, lt-ltb (centre_of roster.edition (state_at roster.edition run which)) roster.centres w.has_centre)
 
 -- ---- The state that was appended may be withdrawn, and what is left is what was there.
 module _ {A : Type 0} (each : ℕ) (store : List A → ℕ → Summary → List A) (keeps : (list : List A) (at : ℕ) (entry : Summary) → length (store list at entry) ≡ length list)
@@ -50,7 +51,7 @@ module _ {A : Type 0} (each : ℕ) (store : List A → ℕ → Summary → List 
 
   may_go : refusal_beside each (withdraw n) then ≡ 0
   may_go =
-      let a = appendable state (length k.run) k.roster listed e in
+      let a = appendable state (length k.run) k.roster listed (accepted _ e) in
       let room : suc n * w ≤ length k.run = has_room (length k.run) k.roster listed a.lent (suc n) (omega (arith, a.not_full)) in
       let its = record_put_lem w k.run n state a.one_record room in
       withdraw_passes n then.run then.roster (one_each each (length then.list) k.roster.centres)

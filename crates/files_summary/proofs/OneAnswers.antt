@@ -1,11 +1,13 @@
 -- Each function that the crate shows leaves one answer open, one content of the states and one of the list.
 use mathlib.Core.Path.{sym, ◌∙◌}
 use mathlib.Core.List.{List}
+use Rattle.std.specs.Prelude.{Result}
 use Prim.Native.Nat.{ℕ}
 use seplogic.Ra.Ura.{Ura}
 use base.Logic.{ent, sep, via, fst∗, snd∗}
 use contract.Monad.{fact, fact_i, fact_use}
 use lib.ListN.{length, set}
+use Rattle.bits.specs.declared.refusal.Refusal.{Refusal}
 use Rattle.bits.specs.OneAnswer.{OneAnswer, OneAnswerOf}
 use Rattle.files_summary.specs.declared.entries.Roster.{Roster}
 use Rattle.files_summary.specs.declared.entries.Summary.{Summary}
@@ -49,7 +51,7 @@ three 𝓤 a b c φ k =
     fact_use 𝓤 c (via 𝓤 (sep 𝓤 (fact 𝓤 b) (fact 𝓤 c)) rest (snd∗ 𝓤 (fact 𝓤 b) (fact 𝓤 c))) (λ z. fact_i 𝓤 φ all (k x y z))))
 
 -- The one answer over structs, and what it leaves; said once more of the contract as an assertion of the logic, with the answer named.
-abbrev answered : (list : List Summary) → Asked → (run : List ℕ) → Roster → Change × (List Summary × (Unit {0} × (List ℕ × (Unit {0} × Unit {0}))))
+abbrev answered : (list : List Summary) → Asked → (run : List ℕ) → Roster → Result Change Refusal × (List Summary × (Unit {0} × (List ℕ × (Unit {0} × Unit {0}))))
 answered list asked run roster =
     let change = change_beside 1 (length list) asked run roster in
     (change, (settled_by set list change, (tt, (run_beside 1 (length list) asked run roster, (tt, tt)))))

@@ -2,7 +2,9 @@
 use mathlib.Core.Path.{◌≡◌, refl, sym, ap, ap₂, ◌∙◌}
 use mathlib.Core.Bool.{Bool, true, false}
 use mathlib.Core.List.{List, [], ◌∷◌}
-use Prim.Native.Nat.{ℕ, zero, suc, ◌*◌, ◌<◌}
+use Rattle.std.specs.Prelude.{Result, Ok, Err}
+use Prim.Native.Nat.{ℕ, ◌*◌, ◌<◌}
+use Rattle.bits.specs.declared.refusal.Refusal.{Refusal}
 use native.Mathlib.Omega.{arith}
 use borrow.Author.Tests.{eq-eqb, ne_eqb, eqb-true, eqb-false}
 use lib.Dec.{eqb}
@@ -11,19 +13,16 @@ use Rattle.files_formats.specs.Rows.{entry_width}
 use Rattle.files_summary.specs.declared.entries.Roster.{Roster}
 use Rattle.files_summary.specs.declared.entries.Summary.{Summary}
 use Rattle.files_summary.specs.declared.changes.Change.{Change}
-use Rattle.files_summary.specs.Changes.{one_each, Asked, if_made, change_of, run_of, settled_by, put_entry, entries_in, as_words}
+use Rattle.files_summary.specs.Changes.{one_each, Asked, change_of, run_of, count_after, settled_by, put_entry, entries_in, as_words}
 use Rattle.files_summary.specs.Kept.{Kept, counting, change_by, changes_by, in_words, OneList, RightWordsStay}
 use Rattle.files_summary.proofs.ChangeLaws.{within, within_list}
 use Rattle.files_summary.proofs.WordLaws.{length-as_words, words_set}
 use Rattle.files_summary.proofs.RightLaws.{right_stays}
 
-settled_alike : (list : List Summary) (change : Change) → (change.number ≡ 0 → change.at < length list) → settled_by put_entry (as_words list) change ≡ as_words (settled_by set list change)
-settled_alike list change h = go change.number h
-  where
-    go : (n : ℕ) → (n ≡ 0 → change.at < length list)
-        → if_made n (as_words list) (put_entry (as_words list) change.at change.entry) ≡ as_words (if_made n list (set list change.at change.entry))
-    go zero h = sym (words_set list change.at change.entry (h refl))
-    go (suc n) h = refl
+settled_alike : (list : List Summary) (change : Result Change Refusal) → ((made : Change) → change ≡ Ok made → made.at < length list)
+    → settled_by put_entry (as_words list) change ≡ as_words (settled_by set list change)
+settled_alike list (Ok made) h = sym (words_set list made.at made.entry (h made refl))
+settled_alike list (Err refusal) h = refl
 
 -- Whether there is one entry for each centre is the same of both.
 same_each : (list : List Summary) (centres : ℕ) → one_each entry_width (length (as_words list)) centres ≡ one_each 1 (length list) centres
@@ -38,14 +37,14 @@ change_alike : (asked : Asked) (k : Kept Summary) → change_by entry_width put_
 unfolding change_by
 change_alike asked k =
     let listed = one_each 1 (length k.list) k.roster.centres in
-    let by : Bool → Change = change_of asked k.run k.roster in
+    let by : Bool → Result Change Refusal = change_of asked k.run k.roster in
     let run : Bool → List ℕ = run_of asked k.run k.roster in
     let e = same_each k.list k.roster.centres in
-    let there : (by listed).number ≡ 0 → (by listed).at < length k.list =
-    λ z. let g = within asked k.run k.roster listed z in omega (arith, within_list {long = length k.list} {centres = k.roster.centres} {at = (by listed).at} 1 g.0 g.1)
+    let there : (made : Change) → by listed ≡ Ok made → made.at < length k.list =
+    λ made z. let g = within asked k.run k.roster listed z in omega (arith, within_list {long = length k.list} {centres = k.roster.centres} {at = made.at} 1 g.0 g.1)
     in
-    (λ i. record { run = run (e i); roster = counting k.roster (by (e i)).count; list = settled_by put_entry (as_words k.list) (by (e i)) })
-    ∙ (λ i. record { run = run listed; roster = counting k.roster (by listed).count; list = settled_alike k.list (by listed) there i })
+    (λ i. record { run = run (e i); roster = counting k.roster (count_after (by (e i)) k.roster.count); list = settled_by put_entry (as_words k.list) (by (e i)) })
+    ∙ (λ i. record { run = run listed; roster = counting k.roster (count_after (by listed) k.roster.count); list = settled_alike k.list (by listed) there i })
 
 pub one_list : OneList
 unfolding changes_by

@@ -2,6 +2,7 @@
 use mathlib.Core.Path.{◌≡◌, sym, ap, ◌∙◌}
 use mathlib.Core.List.{List}
 use Prim.Native.Nat.{ℕ}
+use Rattle.std.specs.Prelude.{Result}
 use seplogic.Ra.Ura.{Ura}
 use base.Logic.{SProp, ent}
 use prog.Memory.{Memory}
@@ -13,11 +14,13 @@ use borrow.Fn.Kinds.{ParamKind, ResultKind, Out, Dens, res_t, ended_of}
 use denote.Triple.Entry.{Args, Res}
 use denote.Triple.Clauses.{Ended, Clauses, Lasts, at_exit}
 use lib.ListN.{length, set}
+use Rattle.bits.specs.declared.refusal.Refusal.{Refusal}
+use Rattle.bits.specs.Refusal.{number_in}
 use Rattle.files_formats.specs.Rows.{entry_width}
 use Rattle.files_summary.specs.declared.entries.Roster.{Roster}
 use Rattle.files_summary.specs.declared.entries.Summary.{Summary}
 use Rattle.files_summary.specs.declared.changes.Change.{Change}
-use Rattle.files_summary.specs.Changes.{one_each, Asked, append, withdraw, change_beside, run_beside, settled_by, put_entry}
+use Rattle.files_summary.specs.Changes.{one_each, Asked, append, withdraw, change_beside, run_beside, count_after, settled_by, put_entry}
 use Rattle.files_summary.specs.Kept.{Kept, counting, change_by, Answered, Afresh}
 use Rattle.files_summary.proofs.ChangeLaws.{number_is}
 use Rattle.files_summary.proofs.SummaryLaws.{summary_right}
@@ -53,19 +56,19 @@ keeping run roster list = record { run = run; roster = roster; list = list }
 pub summary_promise : Promises 2 summary-kinds.ps summary-kinds.r summary-reads.Post (λ κs a x v.
     let run = a.1.0.now in
     let roster = a.1.1.0 in
-    Afresh x (keeping run roster a.0.now) (keeping run roster v.0))
+    Afresh (number_in x) (keeping run roster a.0.now) (keeping run roster v.0))
 summary_promise κs a x v p =
     let run = a.1.0.now in
     let roster = a.1.1.0 in
     let s = summary_right (keeping run roster a.0.now) in
     record {
-      told = p.0;
-      right = λ e. p.1 ∙ s.right (sym p.0 ∙ e);
-      stays = λ h. ap (keeping run roster) p.1 ∙ s.stays (λ z. h (p.0 ∙ z));
+      told = ap number_in p.0;
+      right = λ e. p.1 ∙ s.right (sym (ap number_in p.0) ∙ e);
+      stays = λ h. ap (keeping run roster) p.1 ∙ s.stays (λ z. h (ap number_in p.0 ∙ z));
     }
 
 -- ---- The calls that change something, over words and over structs.
-answers : {A : Type 0} (each : ℕ) (store : List A → ℕ → Summary → List A) (asked : Asked) (k : Kept A) {change : Change} {run : List ℕ} {list : List A} →
+answers : {A : Type 0} (each : ℕ) (store : List A → ℕ → Summary → List A) (asked : Asked) (k : Kept A) {change : Result Change Refusal} {run : List ℕ} {list : List A} →
     change ≡ change_beside each (length k.list) asked k.run k.roster →
     run ≡ run_beside each (length k.list) asked k.run k.roster →
     list ≡ settled_by store k.list (change_beside each (length k.list) asked k.run k.roster) →
@@ -73,8 +76,8 @@ answers : {A : Type 0} (each : ℕ) (store : List A → ℕ → Summary → List
 unfolding change_by
 answers each store asked k p q r =
     record {
-      number = ap (λ (c : Change). c.number) p ∙ number_is asked k.run k.roster (one_each each (length k.list) k.roster.centres);
-      kept = λ i. keeping (q i) (counting k.roster (p i).count) (r i);
+      number = ap number_in p ∙ number_is asked k.run k.roster (one_each each (length k.list) k.roster.centres);
+      kept = λ i. keeping (q i) (counting k.roster (count_after (p i) k.roster.count)) (r i);
     }
 
 pub append_promise : Promises 3 append-kinds.ps append-kinds.r append-reads.Post (λ κs a x v.

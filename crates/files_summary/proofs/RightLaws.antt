@@ -17,7 +17,7 @@ use Rattle.files_summary.specs.declared.entries.Summary.{Summary}
 use Rattle.files_summary.specs.Entries.{state_width, centre_of, is_dated, is_undated, chosen, centre_entry, no_entry}
 use Rattle.files_summary.specs.Changes.{one_each, Asked, append, withdraw, entries_of}
 use Rattle.files_summary.specs.Kept.{Kept, change_by, changes_by, refusal_beside, centre_beside, kept_states, kept_entry, states_asked, Right, RightStays}
-use Rattle.files_summary.proofs.RefusalLaws.{withdrawable, granted}
+use Rattle.files_summary.proofs.RefusalLaws.{accepted, withdrawable, granted}
 use Rattle.files_summary.proofs.AnewLaws.{done, made, not_made, as_asked}
 
 -- ---- States that are chosen, with one more and with one fewer that is not.
@@ -93,7 +93,7 @@ module _ (edition : Edition) where
 other_centres : (asked : Asked) (k : Kept Summary) → refusal_beside 1 asked k ≡ 0 → (d : ℕ) → (centre_beside asked k ≡ d → ⊥) → centre_entry k.roster.edition d (states_asked asked (kept_states k)) ≡ kept_entry d k
 other_centres (append state) k e d other = entry_append k.roster.edition d (kept_states k) state (others k.roster.edition d state other)
 other_centres (withdraw which) k e d other =
-    let a = withdrawable which k.run k.roster (one_each 1 (length k.list) k.roster.centres) e in
+    let a = withdrawable which k.run k.roster (one_each 1 (length k.list) k.roster.centres) (accepted _ e) in
     let its = record_at_lem (state_width k.roster.edition) k.run k.roster.count which a.there in
     entry_without k.roster.edition d (kept_states k) which (others k.roster.edition d (get_or (kept_states k) which []) (λ z. other (ap (centre_of k.roster.edition) (sym its) ∙ z)))
 
@@ -109,7 +109,7 @@ after_one asked k right = go (refusal_beside 1 asked k) refl
         let same = as_asked 1 set asked k e in
         subst Right (sym (made 1 set asked k e))
         (ap (λ (l : List Summary). set l c (centre_entry edition c after)) right
-        ∙ one_anew edition (kept_states k) after k.roster.centres c (granted asked k.run k.roster (one_each 1 (length k.list) k.roster.centres) e).1
+        ∙ one_anew edition (kept_states k) after k.roster.centres c (granted asked k.run k.roster (one_each 1 (length k.list) k.roster.centres) (accepted _ e)).1
         (λ d other. ap (centre_entry edition d) same ∙ other_centres asked k e d other))
     go (suc n) e = subst Right (sym (not_made 1 set asked k (λ z. omega (arith, e, z)))) right
 

@@ -2,6 +2,7 @@
 use Rattle.std.specs.Prelude.{ℕ, ◌≡◌, refl, false, List, [], ◌∷◌, ◌++◌, map, replicate}
 use Rattle.std.specs.Float.Ieee.{is_nan, of_bits}
 use Rattle.bits.specs.Words.{minus_zero}
+use Rattle.bits.specs.Refusal.{number_in}
 use Rattle.files_records.specs.Records.{records_of, record_put, withdrawn}
 use Rattle.files_formats.specs.declared.elements.Edition.TheVariants.{One}
 use Rattle.files_formats.specs.Rows.{entry_width}
@@ -134,7 +135,7 @@ next_appended = refl
 
 -- ---- The refusals in their order: 27 by words, count or record, 41, 24, 42.
 abbrev pub Refuses : (words count centres list number : ℕ) → Type 0
-Refuses words count centres list number = append_refusal (state 1 one 11) words (roster_of One count centres) (one_each 4 list centres) ≡ number
+Refuses words count centres list number = number_in (append_refusal (state 1 one 11) words (roster_of One count centres) (one_each 4 list centres)) ≡ number
 
 refusals :
     Refuses 4000 0 2 8 0 × Refuses 4000 499 2 8 0
@@ -146,6 +147,6 @@ unfolding append_refusal
 refusals = (refl, refl, refl, refl, refl, refl, refl, refl, refl, refl, refl, refl)
 
 -- A record of seven words, whatever else is wrong.
-short_record : append_refusal (1 ∷ one ∷ 1 ∷ 2 ∷ 3 ∷ 4 ∷ 5 ∷ []) 4000 (roster_of One 500 0) false ≡ 27
+short_record : number_in (append_refusal (1 ∷ one ∷ 1 ∷ 2 ∷ 3 ∷ 4 ∷ 5 ∷ []) 4000 (roster_of One 500 0) false) ≡ 27
 unfolding append_refusal
 short_record = refl

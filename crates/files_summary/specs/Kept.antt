@@ -1,11 +1,13 @@
 -- What a station may count on, over any sequence of changes. Document 02, T-02: "After a change that centre's entry is the one worked out afresh and no other
 -- is touched, so a right list stays right."
-use Rattle.std.specs.Prelude.{ℕ, suc, ◌+◌, ◌-◌, ◌*◌, ◌^◌, ◌<◌, ◌≤◌, ◌≡◌, Bool, true, false, not, ◌&&◌}
+use Rattle.std.specs.Prelude.{ℕ, suc, ◌+◌, ◌-◌, ◌*◌, ◌^◌, ◌<◌, ◌≤◌, ◌≡◌, Bool, true, false, not, ◌&&◌, Result}
 use Rattle.std.specs.Prelude.{List, [], ◌∷◌, ◌++◌, eqb, length, get_or, take, drop, set}
 use Rattle.std.specs.Float.{binary64}
 use Rattle.std.specs.Float.Ieee.{lt, eq, of_bits}
 use Rattle.bits.specs.Choice.{pick}
 use Rattle.bits.specs.Words.{minus_zero}
+use Rattle.bits.specs.declared.refusal.Refusal.{Refusal}
+use Rattle.bits.specs.Refusal.{number_in}
 use Rattle.bits.specs.Line.{is_nan_word}
 use Rattle.files_records.specs.Records.{records_of, record_put, withdrawn, without}
 use Rattle.files_formats.specs.declared.elements.Edition.{Edition}
@@ -17,7 +19,7 @@ use Rattle.files_summary.specs.declared.changes.Change.{Change}
 use Rattle.files_summary.specs.Entries.{roster_of, in_use, centre_of, epoch_of, centre_entry, no_entry, entry_words}
 use Rattle.files_summary.specs.Changes.{one_each, summary_refusal, summary_list, append_refusal, withdraw_refusal, state_at}
 use Rattle.files_summary.specs.Changes.{Asked, append, withdraw, refusal_of, centre_asked, change_beside, run_beside}
-use Rattle.files_summary.specs.Changes.{settled_by, put_entry, entries_in, as_words}
+use Rattle.files_summary.specs.Changes.{settled_by, put_entry, entries_in, as_words, count_after}
 
 -- ---- What a station keeps: the run of its states, its roster, and the list of entries; the list as structs or as words.
 pub record Kept (A : Type 0) : Type 0 where
@@ -35,7 +37,7 @@ change_by each store asked k =
     let change = change_beside each (length k.list) asked k.run k.roster in
     record {
       run = run_beside each (length k.list) asked k.run k.roster;
-      roster = counting k.roster change.count;
+      roster = counting k.roster (count_after change k.roster.count);
       list = settled_by store k.list change;
     }
 
@@ -43,9 +45,9 @@ unfoldable pub changes_by : {A : Type 0} (each : ℕ) (store : List A → ℕ �
 changes_by each store [] k = k
 changes_by each store (asked ∷ rest) k = changes_by each store rest (change_by each store asked k)
 
--- The refusal of what is asked, or 0; its centre; and the states that are kept.
+-- The number of the refusal of what is asked, or 0; its centre; and the states that are kept.
 abbrev pub refusal_beside : {A : Type 0} (each : ℕ) → Asked → Kept A → ℕ
-refusal_beside each asked k = refusal_of asked k.run k.roster (one_each each (length k.list) k.roster.centres)
+refusal_beside each asked k = number_in (refusal_of asked k.run k.roster (one_each each (length k.list) k.roster.centres))
 
 abbrev pub centre_beside : {A : Type 0} → Asked → Kept A → ℕ
 centre_beside asked k = centre_asked asked k.run k.roster
@@ -55,41 +57,41 @@ kept_states k = in_use k.roster k.run
 
 -- What a call that changes something promises of its answer and of what it leaves: the number is that of its refusal, or 0, and what is kept is `change_by`.
 pub record Answered {A : Type 0} (each : ℕ) (store : List A → ℕ → Summary → List A) (asked : Asked) (before : Kept A)
-    (change : Change) (run : List ℕ) (list : List A) : Type 0 where
-  pub number : change.number ≡ refusal_beside each asked before
-  pub kept : record { run = run; roster = counting before.roster change.count; list = list } ≡ change_by each store asked before
+    (change : Result Change Refusal) (run : List ℕ) (list : List A) : Type 0 where
+  pub number : number_in change ≡ refusal_beside each asked before
+  pub kept : record { run = run; roster = counting before.roster (count_after change before.roster.count); list = list } ≡ change_by each store asked before
 
 -- ---- The refusals by document 02's numbers and in its order, for states of edition 1; a later one is given where none before it is.
 abbrev pub Roomy : (words count : ℕ) → Type 0
 Roomy words count = (words ≡ 4000) × (count ≤ 500)
 
 pub record AppendRefused (state : List ℕ) (words count centres : ℕ) (listed : Bool) : Type 0 where
-  pub no_record : (length state ≡ 8 → ⊥) → append_refusal state words (roster_of One count centres) listed ≡ 27
-  pub no_section : (words ≡ 4000 → ⊥) → append_refusal state words (roster_of One count centres) listed ≡ 27
-  pub too_many : 500 < count → append_refusal state words (roster_of One count centres) listed ≡ 27
-  pub no_list : length state ≡ 8 → Roomy words count → listed ≡ false → append_refusal state words (roster_of One count centres) listed ≡ 41
+  pub no_record : (length state ≡ 8 → ⊥) → number_in (append_refusal state words (roster_of One count centres) listed) ≡ 27
+  pub no_section : (words ≡ 4000 → ⊥) → number_in (append_refusal state words (roster_of One count centres) listed) ≡ 27
+  pub too_many : 500 < count → number_in (append_refusal state words (roster_of One count centres) listed) ≡ 27
+  pub no_list : length state ≡ 8 → Roomy words count → listed ≡ false → number_in (append_refusal state words (roster_of One count centres) listed) ≡ 41
   pub no_centre : length state ≡ 8 → Roomy words count → listed ≡ true → centres ≤ centre_of One state →
-      append_refusal state words (roster_of One count centres) listed ≡ 24
+      number_in (append_refusal state words (roster_of One count centres) listed) ≡ 24
   pub full : length state ≡ 8 → Roomy words count → listed ≡ true → centre_of One state < centres → count ≡ 500 →
-      append_refusal state words (roster_of One count centres) listed ≡ 42
+      number_in (append_refusal state words (roster_of One count centres) listed) ≡ 42
   pub none : length state ≡ 8 → Roomy words count → listed ≡ true → centre_of One state < centres → count < 500 →
-      append_refusal state words (roster_of One count centres) listed ≡ 0
+      number_in (append_refusal state words (roster_of One count centres) listed) ≡ 0
 
 pub record WithdrawRefused (which : ℕ) (run : List ℕ) (count centres : ℕ) (listed : Bool) : Type 0 where
-  pub no_section : (length run ≡ 4000 → ⊥) → withdraw_refusal which run (roster_of One count centres) listed ≡ 27
-  pub too_many : 500 < count → withdraw_refusal which run (roster_of One count centres) listed ≡ 27
-  pub no_list : Roomy (length run) count → listed ≡ false → withdraw_refusal which run (roster_of One count centres) listed ≡ 41
+  pub no_section : (length run ≡ 4000 → ⊥) → number_in (withdraw_refusal which run (roster_of One count centres) listed) ≡ 27
+  pub too_many : 500 < count → number_in (withdraw_refusal which run (roster_of One count centres) listed) ≡ 27
+  pub no_list : Roomy (length run) count → listed ≡ false → number_in (withdraw_refusal which run (roster_of One count centres) listed) ≡ 41
   pub no_centre : Roomy (length run) count → listed ≡ true → which < count → centres ≤ centre_of One (state_at One run which) →
-      withdraw_refusal which run (roster_of One count centres) listed ≡ 24
-  pub not_there : Roomy (length run) count → listed ≡ true → count ≤ which → withdraw_refusal which run (roster_of One count centres) listed ≡ 42
+      number_in (withdraw_refusal which run (roster_of One count centres) listed) ≡ 24
+  pub not_there : Roomy (length run) count → listed ≡ true → count ≤ which → number_in (withdraw_refusal which run (roster_of One count centres) listed) ≡ 42
   pub none : Roomy (length run) count → listed ≡ true → which < count → centre_of One (state_at One run which) < centres →
-      withdraw_refusal which run (roster_of One count centres) listed ≡ 0
+      number_in (withdraw_refusal which run (roster_of One count centres) listed) ≡ 0
 
 pub record SummaryRefused (run : List ℕ) (count centres : ℕ) (list : List ℕ) : Type 0 where
-  pub no_section : (length run ≡ 4000 → ⊥) → summary_refusal run (roster_of One count centres) list ≡ 27
-  pub too_many : 500 < count → summary_refusal run (roster_of One count centres) list ≡ 27
-  pub no_list : Roomy (length run) count → (length list ≡ centres * 4 → ⊥) → summary_refusal run (roster_of One count centres) list ≡ 41
-  pub none : Roomy (length run) count → length list ≡ centres * 4 → summary_refusal run (roster_of One count centres) list ≡ 0
+  pub no_section : (length run ≡ 4000 → ⊥) → number_in (summary_refusal run (roster_of One count centres) list) ≡ 27
+  pub too_many : 500 < count → number_in (summary_refusal run (roster_of One count centres) list) ≡ 27
+  pub no_list : Roomy (length run) count → (length list ≡ centres * 4 → ⊥) → number_in (summary_refusal run (roster_of One count centres) list) ≡ 41
+  pub none : Roomy (length run) count → length list ≡ centres * 4 → number_in (summary_refusal run (roster_of One count centres) list) ≡ 0
 
 abbrev pub RefusesInOrder : Type 0
 RefusesInOrder =
@@ -161,7 +163,7 @@ RightWords k = k.list ≡ as_words (entries_in k.roster k.run)
 
 -- `summary` works the whole list out afresh: where it answers 0 the list is right, whatever it held before; under a refusal it stays as it was.
 pub record Afresh (number : ℕ) (before after : Kept ℕ) : Type 0 where
-  pub told : number ≡ summary_refusal before.run before.roster before.list
+  pub told : number ≡ number_in (summary_refusal before.run before.roster before.list)
   pub right : number ≡ 0 → RightWords after
   pub stays : (number ≡ 0 → ⊥) → after ≡ before
 
@@ -169,7 +171,7 @@ abbrev pub summarised : Kept ℕ → Kept ℕ
 summarised k = record { run = k.run; roster = k.roster; list = summary_list k.run k.roster k.list }
 
 abbrev pub SummaryRight : Type 0
-SummaryRight = (k : Kept ℕ) → Afresh (summary_refusal k.run k.roster k.list) k (summarised k)
+SummaryRight = (k : Kept ℕ) → Afresh (number_in (summary_refusal k.run k.roster k.list)) k (summarised k)
 
 -- "a right list stays right", whatever is asked, accepted or refused.
 abbrev pub RightStays : Type 0

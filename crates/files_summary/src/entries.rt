@@ -1,10 +1,9 @@
 // The entry of a centre, worked out from the states in use.
 ghost use Rattle.std.specs.Prelude.{◌≡◌, ◌+◌, ◌*◌, ◌^◌, ◌<◌, ◌≤◌, length};
-ghost use Rattle.bits.specs.Choice.{pick};
 ghost use Rattle.files_records.specs.Records.{records_of};
 ghost use Rattle.files_formats.specs.declared.elements.Section.TheVariants.{States};
 ghost use Rattle.files_formats.specs.Elements.{limit_of};
-ghost use Rattle.files_summary.specs.Entries.{state_width, Holds, earlier, later, no_tally, with_epoch, with_state, gathered, shown, centre_entry};
+ghost use Rattle.files_summary.specs.Entries.{state_width, Holds, no_tally, with_epoch, with_state, gathered, shown, centre_entry};
 
 use bits::words::{is_nan_word, line_of, word_on};
 use files_formats::{Column, Edition, Section, column_at, width};
@@ -18,7 +17,7 @@ pub struct Roster {
 }
 
 // A centre's states at a glance: how many have an epoch that is a number, how many a NaN, and the words of the earliest and the latest epoch.
-#[derive(Clone, Copy)]
+#[derive(Clone, Copy, Debug, PartialEq, Eq)]
 pub struct Summary {
     pub states: u64,
     pub nans: u64,
@@ -27,33 +26,12 @@ pub struct Summary {
 }
 
 // What is gathered on the way: the two counts, and the earliest and the latest moment.
-#[derive(Clone, Copy)]
+#[derive(Clone, Copy, Debug, PartialEq, Eq)]
 pub struct Tally {
     pub states: u64,
     pub nans: u64,
     pub first: u64,
     pub last: u64,
-}
-
-// One of two, by a test.
-fn one_of(test: bool, a: u64, b: u64) -> u64
-    ensures { result ≡ pick test a b }
-{
-    if test { a } else { b }
-}
-
-// The earlier of two moments.
-fn earlier(a: u64, b: u64) -> u64
-    ensures { result ≡ earlier a b }
-{
-    one_of(b < a, b, a)
-}
-
-// The later of two moments.
-fn later(a: u64, b: u64) -> u64
-    ensures { result ≡ later a b }
-{
-    one_of(a < b, b, a)
 }
 
 // A tally with one epoch more.
@@ -63,18 +41,16 @@ fn with_epoch(tally: Tally, epoch: u64) -> Tally
 {
     if is_nan_word(epoch) {
         return Tally {
-            states: tally.states,
             nans: tally.nans + 1,
-            first: tally.first,
-            last: tally.last,
+            ..tally
         };
     }
     let place = line_of(epoch);
     Tally {
         states: tally.states + 1,
-        nans: tally.nans,
-        first: earlier(tally.first, place),
-        last: later(tally.last, place),
+        first: tally.first.min(place),
+        last: tally.last.max(place),
+        ..tally
     }
 }
 

@@ -4,6 +4,7 @@
 mod changes;
 mod entries;
 pub mod lists;
+mod pieces;
 pub mod words;
 
 pub use changes::Change;
