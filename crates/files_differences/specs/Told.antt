@@ -5,6 +5,7 @@ use Rattle.std.specs.Float.Ieee.{of_bits}
 use Rattle.bits.specs.Choice.{pick}
 use Rattle.bits.specs.Arithmetic.{is_finite}
 use Rattle.bits.specs.Refusal.{number_of}
+use Rattle.files_checks.specs.declared.Fault.{Fault}
 use Rattle.files_formats.specs.Rows.{result_width}
 use Rattle.files_differences.specs.Distance.{distance_of}
 use Rattle.files_differences.specs.declared.told.RowKind.{RowKind}
@@ -87,6 +88,13 @@ side_word (Some side.Right) = 1
 abbrev pub compared_words : (count : ℕ) → Option Largest → List ℕ
 compared_words count l = 0 ∷ 0 ∷ 0 ∷ count ∷ largest_words count l
 
+-- A refusal of one file, and of both together.
+abbrev pub of_side : Side → Fault → Refused
+of_side s fault = record { fault = fault; side = Some s }
+
+abbrev pub of_both : Fault → Refused
+of_both fault = record { fault = fault; side = None }
+
 unfoldable pub comparison_words : Result Compared Refused → List ℕ
 comparison_words (Ok c) = compared_words c.count c.largest
-comparison_words (Err r) = number_of r.refusal ∷ side_word r.side ∷ r.place ∷ 0 ∷ 0 ∷ 0 ∷ 0 ∷ []
+comparison_words (Err r) = number_of r.fault.refusal ∷ side_word r.side ∷ r.fault.place ∷ 0 ∷ 0 ∷ 0 ∷ 0 ∷ []

@@ -10,12 +10,13 @@ ghost use Rattle.files_differences.specs.Told.{
   largest_with,
   compared_words,
   side_word,
+  of_both,
   comparison_words,
 };
 
 use crate::distance::distance_of;
-use bits::Refusal;
 use bits::words::is_finite_word;
+use files_checks::Fault;
 use files_formats::rows::RESULT_WIDTH;
 
 // What two rows are: answered on both sides, refused on one alone, or on both, with the same number or different ones.
@@ -59,12 +60,20 @@ pub struct Compared {
     pub largest: Option<Largest>,
 }
 
-// Why two files are not compared: the refusal, the file that is refused, if it is one of the two, and its place.
+// Why two files are not compared: what is wrong, and with which of the two, if with one of them.
 #[derive(Clone, Copy, Debug, PartialEq, Eq)]
 pub struct Refused {
-    pub refusal: Refusal,
+    pub fault: Fault,
     pub side: Option<Side>,
-    pub place: usize,
+}
+
+// What is wrong with both together.
+impl From<Fault> for Refused {
+    ghost from_gives = { λ fault refused. refused ≡ of_both fault };
+
+    fn from(fault: Fault) -> Refused {
+        Refused { fault, side: None }
+    }
 }
 
 // What two rows are, by the first word of each.
@@ -192,9 +201,9 @@ pub fn words_of(comparison: Result<Compared, Refused>) -> [u64; 7]
     match comparison {
         Ok(compared) => compared_words(compared.count, compared.largest),
         Err(refused) => [
-            u64::from(refused.refusal),
+            u64::from(refused.fault.refusal),
             side_word(refused.side),
-            refused.place as u64,
+            refused.fault.place as u64,
             0,
             0,
             0,
