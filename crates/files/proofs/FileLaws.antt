@@ -8,8 +8,8 @@ use lib.ListN.{length, length-append}
 use Rattle.files_words.specs.Bytes.{word_at, words_from, bytes_of, as_bytes, put, Below}
 use Rattle.files_words.proofs.WordLaws.{next_word, no_word, whole_file, words_after, length-as_bytes, as_bytes_append}
 use Rattle.files_words.proofs.PutLaws.{put_next}
-use Rattle.files_checks.specs.declared.Check.TheVariants.{Sound}
-use Rattle.files_checks.specs.Checks.{◌⟫◌, end_check}
+use Rattle.bits.specs.declared.refusal.Refusal.TheVariants.{BytesLeft}
+use Rattle.files_checks.specs.Checks.{sound, ◌⟫◌, end_check}
 use Rattle.files_checks.proofs.CheckLaws.{sound_need}
 use Rattle.files_checks.proofs.CountedLaws.{sound_edition}
 use Rattle.files_formats.specs.declared.elements.Section.{Section}
@@ -93,7 +93,7 @@ module _ (shape : Shape) (runs : Runs) (whole : Whole shape runs) where
         let opened : word_at file 0 ∷ words_from file 8 ≡ words_by shape runs = sym (next_word file 0 enough) ∙ words_after [] (words_by shape runs) are in
         cc opened
 
-    first_sound : first_check file ≡ Sound
+    first_sound : first_check file ≡ sound
     first_sound = sound_edition file (is_edition (word_at file 0)) enough (ap is_edition first_word ∙ known_word shape.edition)
 
     pub file_shape : shape_in (edition_in file) file ≡ shape
@@ -114,12 +114,12 @@ module _ (shape : Shape) (runs : Runs) (whole : Whole shape runs) where
         let found : (section : Section) → section_check file shape section ≡ (limit_check shape section (count_of shape section) ⟫ run_check (runs section) shape section) =
         λ section. found_check file shape section runs (after section) (here section) (whole section)
         in
-        let end : end_check file (end_of shape) ≡ Sound = sound_need _ 25 (end_of shape) (le-leb (length file) (end_of shape) (omega (arith, file_length))) in
+        let end : end_check file (end_of shape) ≡ sound = sound_need _ BytesLeft (end_of shape) (le-leb (length file) (end_of shape) (omega (arith, file_length))) in
         ap (λ (x : Shape). first_check file ⟫ section_check file x Centres ⟫ section_check file x States ⟫ section_check file x Requests ⟫ end_check file (end_of x)) file_shape
         ∙ (λ i. first_sound i ⟫ found Centres i ⟫ found States i ⟫ found Requests i ⟫ end i)
 
 -- ---- An accepted file.
-module _ (file : List ℕ) (sound : file_check file ≡ Sound) where
+module _ (file : List ℕ) (passed : file_check file ≡ sound) where
   abbrev shape : Shape
   shape = shape_in (edition_in file) file
 
@@ -127,16 +127,16 @@ module _ (file : List ℕ) (sound : file_check file ≡ Sound) where
   held_words = section_words shape (held file shape)
 
   pub held_proper : (section : Section) → Proper shape (held file shape) section
-  held_proper section = read_proper file shape section (section_sound file sound section) (count_in (edition_in file) file section)
+  held_proper section = read_proper file shape section (section_sound file passed section) (count_in (edition_in file) file section)
 
   next : (section : Section) → words_from file (place_of shape section) ≡ held_words section ++ words_from file (place_of shape section + span_of shape section)
-  next section = read_words_lem file shape section (section_sound file sound section) (count_in (edition_in file) file section)
+  next section = read_words_lem file shape section (section_sound file passed section) (count_in (edition_in file) file section)
 
   words_are : words_from file 0 ≡ words_by shape (held file shape)
   unfolding shape_in
   words_are =
-      let first = edition_sound file sound in
-      let last : words_from file (end_of shape) ≡ [] = no_word file (end_of shape) (omega (arith, sound_length file sound)) in
+      let first = edition_sound file passed in
+      let last : words_from file (end_of shape) ≡ [] = no_word file (end_of shape) (omega (arith, sound_length file passed)) in
       next_word file 0 first.0
       ∙ ap₂ ◌∷◌ (sym (word_back (word_at file 0) first.1))
       (next Centres
@@ -146,7 +146,7 @@ module _ (file : List ℕ) (sound : file_check file ≡ Sound) where
   pub read_bytes : Below 256 file → as_bytes (words_by shape (held file shape)) ≡ file
   read_bytes h =
       let n = 4 + words_of shape Centres + words_of shape States + words_of shape Requests in
-      ap as_bytes (sym words_are) ∙ whole_file file n h (omega (arith, sound_length file sound))
+      ap as_bytes (sym words_are) ∙ whole_file file n h (omega (arith, sound_length file passed))
 
 -- ---- The stores of the writer, one after another.
 then_words : (room xs ys : List ℕ) (n : ℕ) → n ≡ 8 * length xs → 8 * (length xs + length ys) ≤ length room →

@@ -10,8 +10,8 @@ use lib.ListN.{length, take, drop, take-append-drop}
 use lib.Seq.{length-take-le, take_at}
 use Rattle.files_words.specs.Bytes.{word_at, words_from}
 use Rattle.files_words.proofs.WordLaws.{next_word, words_later, length-words_from}
-use Rattle.files_checks.specs.declared.Check.TheVariants.{Sound}
-use Rattle.files_checks.specs.Checks.{need, ◌⟫◌, Ruling, walk, count_check, counted_check}
+use Rattle.bits.specs.declared.refusal.Refusal.TheVariants.{WordMissing}
+use Rattle.files_checks.specs.Checks.{Check, sound, need, ◌⟫◌, Ruling, walk, count_check, counted_check}
 use Rattle.files_checks.proofs.WalkLaws.{walk_front}
 use Rattle.files_checks.proofs.CountedLaws.{count_whole, count_within, words_sound, words_there_lem}
 use Rattle.files_formats.specs.declared.elements.Edition.{Edition}
@@ -46,7 +46,7 @@ shape_of-runs shape runs whole =
 pub record Proper (shape : Shape) (runs : Runs) (section : Section) : Type 0 where
   pub size : length (runs section) ≡ words_of shape section
   pub few : count_of shape section ≤ limit_of section
-  pub numbers : run_check (runs section) shape section ≡ Sound
+  pub numbers : run_check (runs section) shape section ≡ sound
 
 module _ (file : List ℕ) (shape : Shape) (section : Section) where
   abbrev place : ℕ
@@ -65,10 +65,10 @@ module _ (file : List ℕ) (shape : Shape) (section : Section) where
   ruling = ruling_of (kinds_of shape.edition section) (below_of shape section)
 
   -- What the reader found sound.
-  module _ (sound : section_check file shape section ≡ Sound) (count : count_of shape section ≡ word_at file place) where
-    counted : counted_check file place (limit_of section) w ruling ≡ Sound
+  module _ (passed : section_check file shape section ≡ sound) (count : count_of shape section ≡ word_at file place) where
+    counted : counted_check file place (limit_of section) w ruling ≡ sound
     unfolding section_check
-    counted = sound
+    counted = passed
 
     many : n ≡ word_at file place * w
     many = ap (λ (k : ℕ). k * w) count
@@ -117,7 +117,7 @@ module _ (file : List ℕ) (shape : Shape) (section : Section) where
     pub found_check : section_check file shape section ≡ (limit_check shape section (count_of shape section) ⟫ run_check (runs section) shape section)
     unfolding section_check counted_check count_check run_check
     found_check =
-        ap₂ ◌⟫◌
-        (ap₂ (λ (t : Bool) (k : ℕ). need t 21 place ⟫ limit_check shape section k) (le-leb _ _ whole) found_count)
+        ap₂ (λ (a b : Check). a ⟫ b)
+        (ap₂ (λ (t : Bool) (k : ℕ). need t WordMissing place ⟫ limit_check shape section k) (le-leb _ _ whole) found_count)
         (ap₂ (walk ruling (place + 8) []) (ap (λ (k : ℕ). k * w) found_count ∙ sym size) found_words
         ∙ walk_front ruling (place + 8) [] (length (runs section)) (runs section) behind (omega arith))

@@ -1,24 +1,19 @@
 -- Document 01: "The writer takes the three sections as runs of words, and refuses in this order: 27 a run isn't whole records, 23, 24, 26 fewer room bytes than
 -- the file needs. Under one number the first in file order counts. Its place is the first byte of that word in the file that would have been, for 27 the
 -- section (0 to 2), for 26 the length needed. Else it answers the length. Room beyond the file keeps its bytes."
-use Rattle.std.specs.Prelude.{ℕ, ◌/◌, ◌%◌, ◌≤◌, ◌≡◌, List, [], ◌∷◌, leb, eqb, length}
+use Rattle.std.specs.Prelude.{ℕ, ◌/◌, ◌%◌, ◌≤◌, ◌≡◌, Result, Ok, Err, List, [], ◌∷◌, leb, eqb, length}
 use Rattle.files_words.specs.Bytes.{as_bytes, put}
 use Rattle.files_records.specs.Records.{all_words}
-use Rattle.files_checks.specs.declared.Check.{Check}
-use Rattle.files_checks.specs.declared.Check.TheVariants.{Sound, Fault}
-use Rattle.files_checks.specs.Checks.{need, ◌⟫◌}
+use Rattle.bits.specs.declared.refusal.Refusal.TheVariants.{TooMany, RoomTooShort, NotWholeRecords}
+use Rattle.files_checks.specs.declared.Fault.{Fault}
+use Rattle.files_checks.specs.Checks.{Check, sound, need, ◌⟫◌}
 use Rattle.files_formats.specs.declared.elements.Edition.{Edition}
 use Rattle.files_formats.specs.declared.elements.Section.{Section}
 use Rattle.files_formats.specs.declared.elements.Section.TheVariants.{Centres, States, Requests}
 use Rattle.files_formats.specs.declared.shapes.Shape.{Shape}
 use Rattle.files_formats.specs.Elements.{edition_word, sections, limit_of, width_of}
-use Rattle.files_formats.specs.Shapes.{shape_of, with_count, count_of, words_of, place_of, end_of, run_check}
-use Rattle.files_reader.specs.declared.Reading.{Reading}
-use Rattle.files_reader.specs.declared.Reading.TheVariants.{Sections}
-use Rattle.files_reader.specs.declared.Reading.TheVariants as reading
-use Rattle.files_reader.specs.Reader.{reading_by}
-use Rattle.files.specs.declared.Writing.{Writing}
-use Rattle.files.specs.declared.Writing.TheVariants.{Length, Refused}
+use Rattle.files_formats.specs.Shapes.{shape_of, count_of, words_of, place_of, end_of, run_check}
+use Rattle.files.specs.declared.Sections.{Sections}
 
 -- ---- "the three sections as runs of words": what is written has a run for each section.
 abbrev pub Runs : Type 0
@@ -28,6 +23,9 @@ abbrev pub runs_of : (centres states requests : List ℕ) → Runs
 runs_of centres states requests Centres = centres
 runs_of centres states requests States = states
 runs_of centres states requests Requests = requests
+
+abbrev pub runs_in : Sections → Runs
+runs_in sections = runs_of sections.centres.now sections.states.now sections.requests.now
 
 -- The records in so many words of a section; and the shape of the file that runs make. It says every place, and the length.
 abbrev pub records_in : Edition → Section → (words : ℕ) → ℕ
@@ -40,7 +38,7 @@ shape_by edition runs =
 
 -- ---- "Under one number the first in file order counts": one check for each of some sections, in their order.
 unfoldable pub each : (Section → Check) → List Section → Check
-each check [] = Sound
+each check [] = sound
 each check (section ∷ rest) = check section ⟫ each check rest
 
 -- ---- 27, by the number of words in a run; its place is "the section (0 to 2)".
@@ -50,15 +48,15 @@ index_of States = 1
 index_of Requests = 2
 
 abbrev pub whole_check : Edition → Section → (words : ℕ) → Check
-whole_check edition section words = need (eqb (words % width_of edition section) 0) 27 (index_of section)
+whole_check edition section words = need (eqb (words % width_of edition section) 0) NotWholeRecords (index_of section)
 
 -- ---- 23, by a count: the word at fault would be the count word.
 abbrev pub limit_check : Shape → Section → (count : ℕ) → Check
-limit_check shape section count = need (leb count (limit_of section)) 23 (place_of shape section)
+limit_check shape section count = need (leb count (limit_of section)) TooMany (place_of shape section)
 
 -- ---- 26, by the bytes of the file.
 abbrev pub room_check : (size room : ℕ) → Check
-room_check size room = need (leb size room) 26 size
+room_check size room = need (leb size room) RoomTooShort size
 
 -- ---- "refuses in this order: 27 .., 23, 24, 26". 24 is the walk of the reader, over the words that would follow each count word.
 abbrev pub whole_checks : Edition → Runs → Check
@@ -88,39 +86,19 @@ unfolding as_bytes
 file_of edition runs = as_bytes (words_by (shape_by edition runs) runs)
 
 -- ---- "Else it answers the length. Room beyond the file keeps its bytes." A refusal leaves the whole room as it was.
-abbrev pub writing_by : Check → (size : ℕ) → Writing
-writing_by Sound size = Length size
-writing_by (Fault number place) size = Refused number place
-
 abbrev pub room_by : Check → (room file : List ℕ) → List ℕ
-room_by Sound room file = put room 0 file
-room_by (Fault number place) room file = room
+room_by (Ok done) room file = put room 0 file
+room_by (Err fault) room file = room
 
-unfoldable pub writing_of : Edition → Runs → (room : List ℕ) → Writing
+unfoldable pub writing_of : Edition → Runs → (room : List ℕ) → Result ℕ Fault
 unfolding write_check
-writing_of edition runs room = writing_by (write_check edition runs (length room)) (end_of (shape_by edition runs))
+writing_of edition runs room = write_check edition runs (length room) ⟫ Ok (end_of (shape_by edition runs))
 
 unfoldable pub room_of : Edition → Runs → (room : List ℕ) → List ℕ
 unfolding write_check file_of put
 room_of edition runs room = room_by (write_check edition runs (length room)) room (file_of edition runs)
 
--- ---- What the writer's inner steps answer, by the words of each run: 27; after a shape of so many sections, one count more; the whole shape.
-abbrev pub lengths_check : Edition → (centres states requests : ℕ) → Check
-lengths_check edition centres states requests = whole_check edition Centres centres ⟫ whole_check edition States states ⟫ whole_check edition Requests requests
-
-abbrev pub counted_by : Shape → Section → (count : ℕ) → Reading
-counted_by shape section count = reading_by (limit_check shape section count) (with_count shape section count)
-
-abbrev pub next_count : Reading → Section → (words : ℕ) → Reading
-next_count (Sections shape) section words = counted_by shape section (records_in shape.edition section words)
-next_count (reading.Refused number place) section words = reading.Refused number place
-
-abbrev pub counts_shape : Edition → (centres states requests : ℕ) → Reading
-counts_shape edition centres states requests =
-    let start = reading_by (lengths_check edition centres states requests) (shape_of edition 0 0 0) in
-    next_count (next_count (next_count start Centres centres) States states) Requests requests
-
--- What they need: runs of as many words as a shape says, and room for the file.
+-- ---- What the stores need: runs of as many words as a shape says, and room for the file.
 pub record Fits (shape : Shape) (runs : Runs) (room : ℕ) : Type 0 where
   pub whole : (section : Section) → length (runs section) ≡ words_of shape section
   pub roomy : end_of shape ≤ room

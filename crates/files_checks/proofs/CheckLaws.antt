@@ -2,8 +2,9 @@
 use Rattle.std.specs.Prelude.{ℕ, ◌≡◌, refl, Bool, true, false, ◌⊎◌, Result, Ok, Err}
 use Rattle.std.proofs.Common.{sym, ap, ◌∙◌, inl, inr}
 use Rattle.bits.specs.declared.refusal.Refusal.{Refusal}
+use Rattle.bits.specs.Refusal.{number_of}
 use Rattle.files_checks.specs.declared.Fault.{Fault}
-use Rattle.files_checks.specs.Checks.{Check, sound, fault, need, ◌⟫◌}
+use Rattle.files_checks.specs.Checks.{Check, IsFault, sound, fault, need, ◌⟫◌}
 
 pub fault_is_not_sound : {refusal : Refusal} {place : ℕ} {A : Type 0} → fault refusal place ≡ sound → A
 fault_is_not_sound e = cc
@@ -52,6 +53,15 @@ pub needed_not : (holds : Bool) (r : Refusal) (p : ℕ) {refusal : Refusal} {pla
     (holds ≡ false) × (refusal ≡ r) × (place ≡ p)
 needed_not true r p e = cc
 needed_not false r p e = let same = same_fault (sym e) in (refl, same.0, same.1)
+
+-- What is known of an answer that is a fault by its number and place.
+pub is_fault : {T : Type 0} (r : Result T Fault) {number place : ℕ} → IsFault r number place →
+    (f : Fault) × (r ≡ Err f) × (number_of f.refusal ≡ number) × (f.place ≡ place)
+is_fault (Ok v) h = absurd h
+is_fault (Err f) h = (f, refl, h.0, h.1)
+
+pub fault_is : {T : Type 0} {r : Result T Fault} {f : Fault} {number place : ℕ} → r ≡ Err f → number_of f.refusal ≡ number → f.place ≡ place → IsFault r number place
+fault_is e n p = rw e (n, p)
 
 -- ---- A check, then an answer: what it says of a check that the answer is given, or a fault.
 pub answered : {T : Type 0} (a : Check) (v : T) {x : T} → (a ⟫ Ok v) ≡ Ok x → (a ≡ sound) × (v ≡ x)
