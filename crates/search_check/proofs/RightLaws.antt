@@ -32,6 +32,7 @@ use Rattle.search_check.proofs.Sorted.{sorted_readable}
 -- ---- The sign.
 module _ (tau : Seconds) (word : ℕ) where
   sign_only : has_sign_of tau word ≡ true → HasSign tau word
+  unfolding has_sign_of
   sign_only = by (lt tau.0 n0) refl
     where
       by : (b : Bool) → lt tau.0 n0 ≡ b → pick b (leb minus_zero word) (ltb word minus_zero) ≡ true → HasSign tau word
@@ -39,6 +40,7 @@ module _ (tau : Seconds) (word : ℕ) where
       by false e h = record { below = λ f. absurd (true≢false (sym f ∙ e)); above = λ _. ltb-true word minus_zero h }
 
   sign_all : HasSign tau word → has_sign_of tau word ≡ true
+  unfolding has_sign_of
   sign_all s = by (lt tau.0 n0) refl
     where
       by : (b : Bool) → lt tau.0 n0 ≡ b → pick b (leb minus_zero word) (ltb word minus_zero) ≡ true

@@ -16,7 +16,7 @@ use Rattle.search.specs.Search.{found_with, search_by}
 use Rattle.search_check.specs.Passing.{passes}
 
 -- "has the sign of τ": the sign bit of the word is set exactly where τ is below zero.
-abbrev pub has_sign_of : Seconds → (word : ℕ) → Bool
+unfoldable pub has_sign_of : Seconds → (word : ℕ) → Bool
 has_sign_of tau word = has_sign tau word
 
 -- "Its place is the bits of |ψ| read as a whole number", of a word.

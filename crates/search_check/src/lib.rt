@@ -58,7 +58,7 @@ fn is_anomaly(passage: Passage, place: u64) -> bool
 }
 
 // Whether a word has the sign of tau and its place is an anomaly's, for a tau that is not zero.
-#[tactic(auto, unfolding(crate::specs::Right::is_right_beyond_zero))]
+#[tactic(auto, unfolding(crate::specs::Right::has_sign_of, crate::specs::Right::is_right_beyond_zero))]
 fn is_right_beyond_zero(passage: Passage, word: u64) -> bool
     ensures { result ≡ is_right_beyond_zero passage.initial passage.tau word }
 {

@@ -80,21 +80,17 @@ module _ (x : Float) where
   unfolding of_bits is_nan
   by_zero n = eq_neither x n0 n refl
 
-  above : lt n0 x ≡ true → (ne x x ≡ false) × (eq x n0 ≡ false)
+  pub above : lt n0 x ≡ true → (ne x x ≡ false) × (eq x n0 ≡ false)
   above h = ⊎_elim (λ n. (same n, by_zero n ∙ rw (one_way n0 x h, h))) (λ z. absurd (true≢false (sym h ∙ z.0))) (nan_or_not x)
 
-  under : lt x n0 ≡ true → (ne x x ≡ false) × (eq x n0 ≡ false)
+  pub under : lt x n0 ≡ true → (ne x x ≡ false) × (eq x n0 ≡ false)
   under h = ⊎_elim (λ n. (same n, by_zero n ∙ rw h)) (λ z. absurd (true≢false (sym h ∙ z.1))) (nan_or_not x)
 
   pub zero_same : eq x n0 ≡ true → ne x x ≡ false
   zero_same e = ⊎_elim same (λ z. absurd (true≢false (sym e ∙ z.2))) (nan_or_not x)
 
--- A NaN is what is not equal to itself.
-pub nan_is : (x : Float) → ne x x ≡ is_nan x
-unfolding eq ne is_nan
-nan_is nan = refl
-nan_is (inf s) = same (inf s) refl
-nan_is (fin s m e) = same (fin s m e) refl
+  pub neither : lt n0 x ≡ false → lt x n0 ≡ false → eq x n0 ≡ false → ne x x ≡ true
+  neither g h e = ⊎_elim (λ n. absurd (true≢false (sym (by_zero n ∙ rw (g, h)) ∙ e))) (λ z. z.3) (nan_or_not x)
 
 -- So an error with the sign opposite to tau, which is short, is told before the others.
 pub opposite_sort : (tau : Seconds) (x : Float) → is_opposite tau x ≡ true → sort_of tau x ≡ Short x

@@ -3,7 +3,6 @@ ghost use Rattle.std.specs.Prelude.{◌≡◌, ◌^◌};
 ghost use Rattle.std.specs.Float.Ieee.{lt};
 ghost use Rattle.bits.specs.Choice.{pick};
 ghost use Rattle.bits.specs.Arithmetic.{n0};
-ghost use Rattle.search_points.specs.Meaning.{is_opposite};
 ghost use Rattle.search_points.specs.Trial.{anomaly_at, has_sign, sort_of, unevaluated, trial_of, evaluated_at, trial_at};
 
 use super::figures::{Initial, Sort, Terms, Trial};
@@ -37,30 +36,30 @@ pub fn anomaly_at(tau: Seconds, place: u64) -> Anomaly
     Anomaly(f64::from_bits(place + sign_of(tau)))
 }
 
-// Whether an error has the sign opposite to tau.
-fn is_opposite(tau: Seconds, error: f64) -> bool
-    ensures { result ≡ is_opposite tau error }
-{
-    if tau.0 < 0.0 {
-        return error > 0.0;
-    }
-    error < 0.0
-}
-
-// The sort of a readable place's point by its time error. A short point is told by one test, so that test comes first.
+// The sort of a readable place's point by its time error. Nearly every point is short or past, so that is tested first; the error of the others has no sign.
+// Each sign of tau has its own two tests: told by one flag for both, a search takes 2 to 4 in 100 more instructions.
 fn sort_of(tau: Seconds, error: f64) -> Sort
     ensures { result ≡ sort_of tau error }
 {
-    if is_opposite(tau, error) {
-        return Sort::Short(error);
+    if tau.0 < 0.0 {
+        if error > 0.0 {
+            return Sort::Short(error);
+        }
+        if error < 0.0 {
+            return Sort::Past(error);
+        }
+    } else {
+        if error < 0.0 {
+            return Sort::Short(error);
+        }
+        if error > 0.0 {
+            return Sort::Past(error);
+        }
     }
     if error == 0.0 {
         return Sort::Exact;
     }
-    if error.is_nan() {
-        return Sort::Unreadable;
-    }
-    Sort::Past(error)
+    Sort::Unreadable
 }
 
 // A point that is sorted without an evaluation. Nothing asks for the radius there.

@@ -1,18 +1,28 @@
--- What the tests say of a sort.
-use mathlib.Core.Path.{sym, ◌∙◌}
-use Rattle.search_points.proofs.Points.{nan_is, opposite_sort}
+-- What the tests say of a sort: the two signs first, then what has none.
+use mathlib.Core.Path.{sym}
+use Rattle.search_points.proofs.Points.{above, under, neither, opposite_sort}
 use Rattle.search_points.proofs.SortLaws.{nan_sort, zero_sort, else_sort}
 use Rattle.search_points.proofs.trial.sort_of.Goals as goal
-
-pub returns-then-is_opposite : goal.returns-then-is_opposite
-returns-then-is_opposite c = sym (opposite_sort _ _ (sym c.is_opposite.ensures ∙ c.if-is_opposite.true))
+use Rattle.search_points.proofs.trial.sort_of.Goals.{then-tau+else-error+else-error-2, else-tau+else-error-3+else-error-4}
 
 pub returns-then-error : goal.returns-then-error
-returns-then-error c = sym (zero_sort _ _ c.if-error.true)
+returns-then-error c = sym (opposite_sort _ _ (simp (c.if-tau.true, c.if-error.true)))
 
-pub returns-then-is_nan : goal.returns-then-is_nan
-returns-then-is_nan c = sym (nan_sort _ _ (nan_is _ ∙ sym c.is_nan.ensures.value ∙ c.if-is_nan.true))
+pub returns-then-error-2 : goal.returns-then-error-2
+returns-then-error-2 c = let f = under _ c.if-error-2.true in sym (else_sort _ _ f.0 f.1 (simp (c.if-tau.true, c.if-error.false)))
+
+pub returns-then-error-3 : goal.returns-then-error-3
+returns-then-error-3 c = sym (opposite_sort _ _ (simp (c.if-tau.false, c.if-error-3.true)))
+
+pub returns-then-error-4 : goal.returns-then-error-4
+returns-then-error-4 c = let f = above _ c.if-error-4.true in sym (else_sort _ _ f.0 f.1 (simp (c.if-tau.false, c.if-error-3.false)))
+
+pub returns-then-error-5 : goal.returns-then-error-5
+returns-then-error-5 c = sym (zero_sort _ _ c.if-error-5.true)
 
 pub returns : goal.returns
 returns c =
-    sym (else_sort _ _ (nan_is _ ∙ sym c.is_nan.ensures.value ∙ c.if-is_nan.false) c.if-error.false (sym c.is_opposite.ensures ∙ c.if-is_opposite.false))
+    sym (nan_sort _ _ (elim c.if-tau.branch [
+      | then-tau+else-error+else-error-2 w ↦ neither _ w.if-error.false w.if-error-2.false c.if-error-5.false
+      | else-tau+else-error-3+else-error-4 w ↦ neither _ w.if-error-4.false w.if-error-3.false c.if-error-5.false
+    ]))
