@@ -8,6 +8,7 @@ use native.Mathlib.Omega.{arith}
 use borrow.Author.Tests.{eq-eqb, ne_eqb, eqb-true, eqb-false}
 use lib.Dec.{eqb}
 use lib.Ieee.{binary64, of_bits}
+use Rattle.std.specs.Prelude.{Option}
 use Rattle.bits.specs.Choice.{pick}
 use Rattle.bits.specs.Arithmetic.{is_finite}
 use Rattle.files_formats.specs.Rows.{result_refusal, result_figure, result_figures}
@@ -99,7 +100,7 @@ module _ (left right : List ℕ) where
       ap (λ (r : RowKind). figure_in r (word_on (row_at right k) (result_figure + n)) (word_on (row_at left k) (result_figure + n))) (rows_exchanged (word_on (row_at left k) result_refusal) (word_on (row_at right k) result_refusal))
       ∙ in_exchanged (row_kind_at left right k) (word_on (row_at left k) (result_figure + n)) (word_on (row_at right k) (result_figure + n))
 
-  in_row : (k n : ℕ) (l : Largest) → largest_in_row (row_at right k) (row_at left k) l k n ≡ largest_in_row (row_at left k) (row_at right k) l k n
+  in_row : (k n : ℕ) (l : Option Largest) → largest_in_row (row_at right k) (row_at left k) l k n ≡ largest_in_row (row_at left k) (row_at right k) l k n
   unfolding largest_in_row
   in_row k zero l = refl
   in_row k (suc n) l = λ i. largest_with (in_row k n l i) k (result_figure + n) (figures k n i)
@@ -107,7 +108,7 @@ module _ (left right : List ℕ) where
   largest : (n : ℕ) → largest_of right left n ≡ largest_of left right n
   unfolding largest_of
   largest zero = refl
-  largest (suc n) = ap (λ (l : Largest). largest_in_row (row_at right n) (row_at left n) l n result_figures) (largest n) ∙ in_row n result_figures (largest_of left right n)
+  largest (suc n) = ap (λ (l : Option Largest). largest_in_row (row_at right n) (row_at left n) l n result_figures) (largest n) ∙ in_row n result_figures (largest_of left right n)
 
 pub sides_exchanged : SidesExchanged
 sides_exchanged left right = record {

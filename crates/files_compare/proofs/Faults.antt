@@ -1,16 +1,13 @@
 -- What is wrong with a result file that is refused, and where.
-use Prim.Native.Nat.{ℕ, ◌*◌, ◌≤◌, ◌<◌}
-use mathlib.Core.Path.{◌≡◌, sym, ◌∙◌}
-use mathlib.Core.Logic.{◌⊎◌, inl, inr}
-use mathlib.Core.List.{List}
-use native.Mathlib.Omega.{arith}
+use Rattle.std.specs.Prelude.{ℕ, ◌≡◌, ◌*◌, ◌≤◌, ◌<◌, ◌⊎◌, List, leb, length}
+use Rattle.std.proofs.Common.{sym, ap, ◌∙◌, inl, inr, arith}
 use borrow.Author.Tests.{leb-true, leb-false, eqb-true, eqb-false}
-use lib.Dec.{leb}
-use lib.ListN.{length}
+use Rattle.bits.specs.declared.refusal.Refusal.{Refusal}
+use Rattle.bits.specs.declared.refusal.Refusal.TheVariants.{WordMissing, UnknownEdition, TooMany}
+use Rattle.bits.specs.Refusal.{number_of}
 use Rattle.files_words.specs.Bytes.{word_at}
 use Rattle.files_words.proofs.WordLaws.{word_missing}
-use Rattle.files_checks.specs.declared.Check.TheVariants.{Fault}
-use Rattle.files_checks.specs.Checks.{need, count_check, edition_check, filled_check, rest_check}
+use Rattle.files_checks.specs.Checks.{fault, need, count_check, edition_check, filled_check, rest_check}
 use Rattle.files_formats.specs.Rows.{result_edition, result_count_place, result_width, most_results}
 use Rattle.files_checks.proofs.CheckLaws.{needed, first_fault_lem, needed_not}
 use Rattle.files_checks.proofs.CountedLaws.{edition_is, count_sound, filled_is, rest_fault}
@@ -25,45 +22,45 @@ either (inr b) f g = g b
 no_count : (file : List ℕ) → length file < 16 → row_count file ≡ 0
 no_count file h = word_missing file result_count_place h
 
-module _ (file : List ℕ) {number place : ℕ} where
-  of_edition : edition_check file (edition_known file) ≡ Fault number place → FaultIn file number place
+module _ (file : List ℕ) {refusal : Refusal} {place : ℕ} where
+  of_edition : edition_check file (edition_known file) ≡ fault refusal place → FaultIn file (number_of refusal) place
   unfolding edition_check
   of_edition e =
-      either (first_fault_lem (need (leb 8 (length file)) 21 0) (need (edition_known file) 22 0) e)
+      either (first_fault_lem (need (leb 8 (length file)) WordMissing 0) (need (edition_known file) UnknownEdition 0) e)
       (λ f.
-      let n = needed_not (leb 8 (length file)) 21 0 f in
+      let n = needed_not (leb 8 (length file)) WordMissing 0 f in
       let short = leb-false 8 (length file) n.0 in
-      inl (n.1, omega (arith, n.2, short), (λ h. absurd (omega (arith, short, h))), omega (arith, no_count file (omega (arith, short))), omega (arith, short)))
+      inl (ap number_of n.1, omega (arith, n.2, short), (λ h. absurd (omega (arith, short, h))), omega (arith, no_count file (omega (arith, short))), omega (arith, short)))
       (λ f.
-      let n = needed_not (edition_known file) 22 0 f.1 in
-      inr (inl (n.1, n.2, leb-true 8 (length file) (needed _ _ _ f.0), eqb-false (word_at file 0) result_edition n.0)))
+      let n = needed_not (edition_known file) UnknownEdition 0 f.1 in
+      inr (inl (ap number_of n.1, n.2, leb-true 8 (length file) (needed _ _ _ f.0), eqb-false (word_at file 0) result_edition n.0)))
 
   module _ (whole : 8 ≤ length file) (edition : word_at file 0 ≡ 1) where
-    of_count : count_check file result_count_place most_results ≡ Fault number place → FaultIn file number place
+    of_count : count_check file result_count_place most_results ≡ fault refusal place → FaultIn file (number_of refusal) place
     unfolding count_check
     of_count e =
-        either (first_fault_lem (need (leb 16 (length file)) 21 result_count_place) (need (leb (row_count file) most_results) 23 result_count_place) e)
+        either (first_fault_lem (need (leb 16 (length file)) WordMissing result_count_place) (need (leb (row_count file) most_results) TooMany result_count_place) e)
         (λ f.
-        let n = needed_not (leb 16 (length file)) 21 result_count_place f in
+        let n = needed_not (leb 16 (length file)) WordMissing result_count_place f in
         let short = leb-false 16 (length file) n.0 in
-        inl (n.1, omega (arith, n.2, short, whole), (λ h. edition), omega (arith, no_count file short), omega (arith, short)))
+        inl (ap number_of n.1, omega (arith, n.2, short, whole), (λ h. edition), omega (arith, no_count file short), omega (arith, short)))
         (λ f.
-        let n = needed_not (leb (row_count file) most_results) 23 result_count_place f.1 in
-        inr (inr (inl (n.1, n.2, (λ h. edition), leb-true 16 (length file) (needed _ _ _ f.0), leb-false (row_count file) most_results n.0))))
+        let n = needed_not (leb (row_count file) most_results) TooMany result_count_place f.1 in
+        inr (inr (inl (ap number_of n.1, n.2, (λ h. edition), leb-true 16 (length file) (needed _ _ _ f.0), leb-false (row_count file) most_results n.0))))
 
-    of_rest : 16 ≤ length file → row_count file ≤ 1500 → rest_check file 16 (row_count file * result_width) ≡ Fault number place → FaultIn file number place
+    of_rest : 16 ≤ length file → row_count file ≤ 1500 → rest_check file 16 (row_count file * result_width) ≡ fault refusal place → FaultIn file (number_of refusal) place
     of_rest there few e =
         either (rest_fault file 16 (row_count file * result_width) e)
-        (λ f. inl (f.0, omega (arith, f.1, there), (λ h. edition), few, omega (arith, f.2, there)))
-        (λ f. inr (inr (inr (f.0, omega (arith, f.1), (λ h. edition), few, omega (arith, f.1, f.2)))))
+        (λ f. inl (ap number_of f.0, omega (arith, f.1, there), (λ h. edition), few, omega (arith, f.2, there)))
+        (λ f. inr (inr (inr (ap number_of f.0, omega (arith, f.1), (λ h. edition), few, omega (arith, f.1, f.2)))))
 
-    of_rows : filled_check file result_count_place most_results result_width ≡ Fault number place → FaultIn file number place
+    of_rows : filled_check file result_count_place most_results result_width ≡ fault refusal place → FaultIn file (number_of refusal) place
     of_rows e =
         either (first_fault_lem (count_check file result_count_place most_results) (rest_check file 16 (row_count file * result_width)) (sym (filled_is file result_count_place most_results result_width) ∙ e))
         of_count (λ f. let c = count_sound file result_count_place most_results f.0 in of_rest c.0 c.1 f.1)
 
 pub fault_so : FaultSo
 unfolding results_check
-fault_so file number place e =
+fault_so file told e =
     either (first_fault_lem (edition_check file (edition_known file)) (filled_check file result_count_place most_results result_width) e) (of_edition file)
     (λ f. let c = edition_is file (edition_known file) f.0 in of_rows file c.0 (eqb-true (word_at file 0) result_edition c.1) f.1)

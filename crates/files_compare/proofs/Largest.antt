@@ -4,6 +4,7 @@ use mathlib.Core.Path.{◌≡◌, refl, sym, ◌∙◌}
 use mathlib.Core.Bool.{Bool, true, false}
 use mathlib.Core.Logic.{◌⊎◌, inl, inr}
 use mathlib.Core.List.{List}
+use Rattle.std.specs.Prelude.{Option, Some, None}
 use native.Mathlib.Omega.{arith}
 use borrow.Author.Tests.{ltb-true, ltb-false}
 use lib.Dec.{ltb}
@@ -12,8 +13,7 @@ use Rattle.files_formats.specs.Rows.{result_figure, result_figures}
 use Rattle.files_differences.specs.declared.told.Figure.{Figure}
 use Rattle.files_differences.specs.declared.told.Figure.TheVariants as figure
 use Rattle.files_differences.specs.declared.told.Largest.{Largest}
-use Rattle.files_differences.specs.declared.told.Largest.TheVariants as largest
-use Rattle.files_differences.specs.Told.{first_larger, largest_with}
+use Rattle.files_differences.specs.Told.{at, first_larger, largest_with}
 use Rattle.files_compare.specs.Compare.{figure_at, row_at, largest_in_row, largest_of}
 use Rattle.files_compare.specs.ComparePromise.{Earlier, FirstLargest, LargestIsFirst}
 
@@ -52,14 +52,14 @@ module _ (left right : List ℕ) where
   same_distance k j d e p q = let same : figure.Distance d ≡ figure.Distance e = sym p ∙ q in cc
 
   -- What is the first largest before one figure is so before a later one, where none up to there is larger.
-  further : (row n row' n' r word most : ℕ) → ((k j : ℕ) → Earlier k j row n → Earlier k j row' n') → FirstLargest left right row n (largest.At r word most) →
-      ((k j e : ℕ) → j < result_figures → Earlier k j row' n' → Has k j e → e ≤ most) → FirstLargest left right row' n' (largest.At r word most)
-  further row n row' n' r word most on f none = (
+  further : (row n row' n' : ℕ) (l : Largest) → ((k j : ℕ) → Earlier k j row n → Earlier k j row' n') → FirstLargest left right row n (Some l) →
+      ((k j e : ℕ) → j < result_figures → Earlier k j row' n' → Has k j e → e ≤ l.distance) → FirstLargest left right row' n' (Some l)
+  further row n row' n' l on f none = (
     f.0,
     (
       f.1.0,
       record {
-        there = on r f.0 f.1.1.there;
+        there = on l.row f.0 f.1.1.there;
         a_figure = f.1.1.a_figure;
         is_its = f.1.1.is_its;
         none_larger = none;
@@ -79,17 +79,17 @@ module _ (left right : List ℕ) where
         by (inr p) = its e (sym (λ i. figure_at left right (p.0 i) (p.1 i)) ∙ q)
 
     -- What was the first largest stays so where the next figure has no larger distance.
-    kept : (r word most : ℕ) → FirstLargest left right row n (largest.At r word most) → ((e : ℕ) → Has row n e → e ≤ most) → FirstLargest left right row (suc n) (largest.At r word most)
-    kept r word most f no-larger = further row n row (suc n) r word most (λ k j b. in_front k j row n b) f (and_its (λ e. e ≤ most) f.1.1.none_larger no-larger)
+    kept : (l : Largest) → FirstLargest left right row n (Some l) → ((e : ℕ) → Has row n e → e ≤ l.distance) → FirstLargest left right row (suc n) (Some l)
+    kept l f no-larger = further row n row (suc n) l (λ k j b. in_front k j row n b) f (and_its (λ e. e ≤ l.distance) f.1.1.none_larger no-larger)
 
     -- A figure without a distance changes nothing.
-    stays : (l : Largest) → ((d : ℕ) → Has row n d → ⊥) → FirstLargest left right row n l → FirstLargest left right row (suc n) l
-    stays largest.Nowhere none f = and_its (λ e. ⊥) f none
-    stays (largest.At r word d) none f = kept r word d f (λ e q. absurd (none e q))
+    stays : (l : Option Largest) → ((d : ℕ) → Has row n d → ⊥) → FirstLargest left right row n l → FirstLargest left right row (suc n) l
+    stays None none f = and_its (λ e. ⊥) f none
+    stays (Some l) none f = kept l f (λ e q. absurd (none e q))
 
     -- A distance: it takes the place where all before it are smaller; the first of all, or larger than those before it, or not.
     module _ (d : ℕ) (its : Has row n d) where
-      taken : ((k j e : ℕ) → j < result_figures → Earlier k j row n → Has k j e → e < d) → FirstLargest left right row (suc n) (largest.At row (result_figure + n) d)
+      taken : ((k j e : ℕ) → j < result_figures → Earlier k j row n → Has k j e → e < d) → FirstLargest left right row (suc n) (Some (at row (result_figure + n) d))
       taken smaller = (
         n,
         (
@@ -105,19 +105,19 @@ module _ (left right : List ℕ) where
         ),
       )
 
-      module _ (r word most : ℕ) (f : FirstLargest left right row n (largest.At r word most)) where
-        by_size : (b : Bool) → ltb most d ≡ b → FirstLargest left right row (suc n) (pick b (largest.At row (result_figure + n) d) (largest.At r word most))
-        by_size true t = taken (λ k j e h before q. omega (arith, ltb-true most d t, f.1.1.none_larger k j e h before q))
-        by_size false t = kept r word most f (λ e q. omega (arith, ltb-false most d t, same_distance row n d e its q))
+      module _ (l : Largest) (f : FirstLargest left right row n (Some l)) where
+        by_size : (b : Bool) → ltb l.distance d ≡ b → FirstLargest left right row (suc n) (pick b (Some (at row (result_figure + n) d)) (Some l))
+        by_size true t = taken (λ k j e h before q. omega (arith, ltb-true l.distance d t, f.1.1.none_larger k j e h before q))
+        by_size false t = kept l f (λ e q. omega (arith, ltb-false l.distance d t, same_distance row n d e its q))
 
-      with_distance : (l : Largest) → FirstLargest left right row n l → FirstLargest left right row (suc n) (first_larger l row (result_figure + n) d)
-      with_distance largest.Nowhere f = taken (λ k j e h before q. absurd (f k j e h before q))
-      with_distance (largest.At r word most) f = by_size r word most f (ltb most d) refl
+      with_distance : (l : Option Largest) → FirstLargest left right row n l → FirstLargest left right row (suc n) (first_larger l row (result_figure + n) d)
+      with_distance None f = taken (λ k j e h before q. absurd (f k j e h before q))
+      with_distance (Some l) f = by_size l f (ltb l.distance d) refl
 
     no_distance : {f : Figure} → figure_at left right row n ≡ f → ((d : ℕ) → f ≡ figure.Distance d → ⊥) → (d : ℕ) → Has row n d → ⊥
     no_distance e none d q = none d (sym e ∙ q)
 
-    one_more : (l : Largest) → FirstLargest left right row n l → FirstLargest left right row (suc n) (largest_with l row (result_figure + n) (figure_at left right row n))
+    one_more : (l : Option Largest) → FirstLargest left right row n l → FirstLargest left right row (suc n) (largest_with l row (result_figure + n) (figure_at left right row n))
     one_more l f = by (figure_at left right row n) refl
       where
         by : (g : Figure) → figure_at left right row n ≡ g → FirstLargest left right row (suc n) (largest_with l row (result_figure + n) g)
@@ -127,15 +127,15 @@ module _ (left right : List ℕ) where
         by figure.Untold e = stays l (no_distance e (λ d q. let z : ◌≡◌ {A = ℕ} 0 1 = cc in omega arith)) f
 
   -- ---- The figures of a row, then the rows.
-  in_row : (row n : ℕ) → n ≤ result_figures → (l : Largest) → FirstLargest left right row 0 l → FirstLargest left right row n (largest_in_row (row_at left row) (row_at right row) l row n)
+  in_row : (row n : ℕ) → n ≤ result_figures → (l : Option Largest) → FirstLargest left right row 0 l → FirstLargest left right row n (largest_in_row (row_at left row) (row_at right row) l row n)
   unfolding largest_in_row
   in_row row zero h l f = f
   in_row row (suc n) h l f = one_more row n (omega arith) (largest_in_row (row_at left row) (row_at right row) l row n) (in_row row n (omega arith) l f)
 
-  at_next_row : (row : ℕ) (l : Largest) → FirstLargest left right row result_figures l → FirstLargest left right (suc row) 0 l
-  at_next_row row largest.Nowhere f = λ k j e h before q. f k j e h (row_before k j row h before) q
-  at_next_row row (largest.At r word d) f =
-      further row result_figures (suc row) 0 r word d (λ k j b. next_row k j row b) f (λ k j e h before q. f.1.1.none_larger k j e h (row_before k j row h before) q)
+  at_next_row : (row : ℕ) (l : Option Largest) → FirstLargest left right row result_figures l → FirstLargest left right (suc row) 0 l
+  at_next_row row None f = λ k j e h before q. f k j e h (row_before k j row h before) q
+  at_next_row row (Some l) f =
+      further row result_figures (suc row) 0 l (λ k j b. next_row k j row b) f (λ k j e h before q. f.1.1.none_larger k j e h (row_before k j row h before) q)
 
 pub largest_is_first : LargestIsFirst
 unfolding largest_of

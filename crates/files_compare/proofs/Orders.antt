@@ -1,23 +1,26 @@
 -- The order of refusals, and what the lent run holds after each.
 use Prim.Native.Nat.{ℕ}
-use mathlib.Core.Path.{◌≡◌, refl, ap}
+use mathlib.Core.Path.{◌≡◌, refl, sym, ap, subst}
 use mathlib.Core.Bool.{Bool}
 use mathlib.Core.List.{List, ◌++◌}
 use native.Mathlib.Omega.{arith}
 use borrow.Author.Tests.{le-leb, lt-leb, eq-eqb, ne_eqb, eqb-true}
 use lib.Dec.{eqb, leb}
 use lib.ListN.{drop}
+use Rattle.std.specs.Prelude.{⊤, Option, Some, None, Result, Ok, Err}
+use Rattle.bits.specs.declared.refusal.Refusal.TheVariants.{CountsDiffer, RoomTooShort}
 use Rattle.files_words.specs.Bytes.{word_at}
-use Rattle.files_checks.specs.declared.Check.{Check}
-use Rattle.files_checks.specs.Checks.{need, edition_check}
+use Rattle.files_checks.specs.declared.Fault.{Fault}
+use Rattle.files_checks.specs.Checks.{Check, sound, need, edition_check}
 use Rattle.files_formats.specs.Rows.{result_edition, result_count_place, result_width, most_results}
 use Rattle.files_checks.proofs.CheckLaws.{both}
 use Rattle.files_checks.proofs.CountedLaws.{filled_sound, edition_is}
+use Rattle.files_differences.specs.declared.told.Side.{Side}
 use Rattle.files_differences.specs.declared.told.Side.TheVariants as side
-use Rattle.files_differences.specs.declared.told.Comparison.{Comparison}
-use Rattle.files_differences.specs.declared.told.Comparison.TheVariants as comparison
+use Rattle.files_differences.specs.declared.told.Compared.{Compared}
+use Rattle.files_differences.specs.declared.told.Refused.{Refused}
 use Rattle.files_compare.specs.Compare.{edition_known, results_check, row_count, rows_told, largest_of, words_needed, unless_fault, comparison_of, unless_compared, run_after}
-use Rattle.files_compare.specs.ComparePromise.{SoundSo, RefusesInOrder, KeepsOrTells}
+use Rattle.files_compare.specs.ComparePromise.{SoundSo, IsRefused, RefusesInOrder, KeepsOrTells}
 
 pub sound_so : SoundSo
 unfolding results_check
@@ -30,31 +33,46 @@ sound_so file e =
       size = omega (arith, filled.1);
     }
 
+-- A fault is told of its side, and a file without one is sound.
+pub stops : {T : Type 0} (s : Option Side) (check : Check) (next : Result T Refused) {r : Refused} → unless_fault {T = ⊤} s check (Ok tt) ≡ Err r → Err r ≡ unless_fault s check next
+stops s (Ok done) next e = cc
+stops s (Err fault) next e = cc
+
+pub faulty : {T : Type 0} (s : Option Side) (next : Result T Refused) {check : Check} {fault : Fault} → check ≡ Err fault → Err (record { fault = fault; side = s }) ≡ unless_fault s check next
+faulty s next e = ap (λ (k : Check). unless_fault s k next) (sym e)
+
+pub passes : (s : Option Side) (check : Check) → unless_fault {T = ⊤} s check (Ok tt) ≡ Ok tt → check ≡ sound
+passes s (Ok done) e = refl
+passes s (Err fault) e = cc
+
 module _ (left right : List ℕ) (room : ℕ) where
-  abbrev count : ℕ
+  abbrev pub count : ℕ
   count = row_count left
 
   -- The answer, by what each test came to.
-  abbrev by_tests : Check → Check → (same enough : Bool) → Comparison
+  abbrev pub by_tests : Check → Check → (same enough : Bool) → Result Compared Refused
   by_tests l r same enough =
-      unless_fault side.Left l
-      (unless_fault side.Right r
-      (unless_fault side.Neither (need same 51 0)
-      (unless_fault side.Neither (need enough 26 (words_needed left))
-      (comparison.Compared count (largest_of left right count)))))
+      unless_fault (Some side.Left) l
+      (unless_fault (Some side.Right) r
+      (unless_fault None (need same CountsDiffer 0)
+      (unless_fault None (need enough RoomTooShort (words_needed left))
+      (Ok (record { count = count; largest = largest_of left right count })))))
 
-  by : {l r : Check} {same enough : Bool} → results_check left ≡ l → results_check right ≡ r → eqb count (row_count right) ≡ same → leb (words_needed left) room ≡ enough → comparison_of left right room ≡ by_tests l r same enough
+  pub by : {l r : Check} {same enough : Bool} → results_check left ≡ l → results_check right ≡ r → eqb count (row_count right) ≡ same → leb (words_needed left) room ≡ enough → comparison_of left right room ≡ by_tests l r same enough
   unfolding comparison_of
   by el er es ee = λ i. by_tests (el i) (er i) (es i) (ee i)
+
+is_refused : {c d : Result Compared Refused} (number place : ℕ) (s : Option Side) → c ≡ d → IsRefused d number s place → IsRefused c number s place
+is_refused number place s e h = subst (λ (c : Result Compared Refused). IsRefused c number s place) (sym e) h
 
 pub refuses_in_order : RefusesInOrder
 refuses_in_order left right room =
     let c = row_count left in
     record {
-      left_first = λ number place el. by left right room el refl refl refl;
-      then_right = λ el number place er. by left right room el er refl refl;
-      then_51 = λ el er h. by left right room el er (ne_eqb c (row_count right) h) refl;
-      then_26 = λ el er h s. by left right room el er (eq-eqb c (row_count right) h) (lt-leb (words_needed left) room s);
+      left_first = λ fault el. by left right room el refl refl refl;
+      then_right = λ el fault er. by left right room el er refl refl;
+      then_51 = λ el er h. is_refused _ _ _ (by left right room el er (ne_eqb c (row_count right) h) refl) (refl, refl, refl);
+      then_26 = λ el er h s. is_refused _ _ _ (by left right room el er (eq-eqb c (row_count right) h) (lt-leb (words_needed left) room s)) (refl, refl, refl);
       else_compared = λ el er h s. by left right room el er (eq-eqb c (row_count right) h) (le-leb (words_needed left) room s);
     }
 
@@ -63,6 +81,6 @@ unfolding run_after
 keeps_or_tells left right run =
     let told = rows_told left right (row_count left) ++ drop (words_needed left) run in
     record {
-      kept = λ number place s e. ap (λ (c : Comparison). unless_compared c run told) e;
-      told = λ n l e. ap (λ (c : Comparison). unless_compared c run told) e;
+      kept = λ r e. ap (λ (c : Result Compared Refused). unless_compared c run told) e;
+      told = λ c e. ap (λ (c : Result Compared Refused). unless_compared c run told) e;
     }

@@ -1,6 +1,6 @@
 -- A file of rows has them, each in its place; two such files are compared row by row.
 use Prim.Native.Nat.{ℕ, suc, ◌+◌, ◌*◌, ◌^◌, ◌<◌, ◌≤◌}
-use mathlib.Core.Path.{◌≡◌, refl, sym, ap, ap₂, ◌∙◌}
+use mathlib.Core.Path.{◌≡◌, refl, sym, ap, ap₂, subst, ◌∙◌}
 use mathlib.Core.List.{List, [], ◌∷◌, ◌++◌, append_assoc, append-nil}
 use native.Mathlib.Nat.{add-zero, zero-add}
 use borrow.Author.Tests.{eq-eqb}
@@ -9,15 +9,15 @@ use lib.ListN.{length, length-append, drop, get_or, get_or-append}
 use lib.Seq.{drop_at}
 use Rattle.files_words.specs.Bytes.{words, words_from, word_at, as_bytes, Below}
 use Rattle.files_words.proofs.WordLaws.{length-as_bytes, as_bytes_append, words_as_bytes, words_after, word_whole, word_in_part, words_later, word_of_words, length-words_from}
-use Rattle.files_checks.specs.declared.Check.TheVariants.{Sound, Fault}
-use Rattle.files_checks.specs.Checks.{◌⟫◌, edition_check, filled_check}
+use Rattle.std.specs.Prelude.{Ok}
+use Rattle.bits.specs.declared.refusal.Refusal.TheVariants.{BytesLeft}
+use Rattle.files_checks.specs.Checks.{Check, sound, fault, IsFault, ◌⟫◌, edition_check, filled_check}
 use Rattle.files_records.specs.Records.{all_words}
 use Rattle.files_formats.specs.Rows.{result_edition, result_count_place, result_width, most_results, result_place, result_refusal, result_figure, result_figures, told_width}
 use Rattle.files_checks.proofs.CheckLaws.{sound_both}
 use Rattle.files_records.proofs.AllLaws.{all_length, all_below}
 use Rattle.files_checks.proofs.CountedLaws.{sound_filled, left_behind, sound_edition}
 use Rattle.files_differences.specs.declared.told.RowKind.{RowKind}
-use Rattle.files_differences.specs.declared.told.Comparison.TheVariants as comparison
 use Rattle.files_differences.specs.Told.{row_kind_of, row_kind_word, figure_in, figure_words}
 use Rattle.files_compare.specs.Compare.{edition_known, results_check, row_count, word_on, kind_on, figure_on, figures_told, row_told, row_at, rows_told, largest_of}
 use Rattle.files_compare.specs.ComparePromise.{RefusedFileIs25, Row, words_in, IsRow, AreRows, file_of, figures_between, between, all_between, FiguresOf, ComparesRows}
@@ -44,29 +44,29 @@ module _ (count : ℕ) (rest : List ℕ) (small : count < 2 ^ 64) where
   unfolding words
   count_here = word_whole file result_count_place (omega (arith, words_length)) ∙ ap (λ (ws : List ℕ). get_or ws 1 0) first_two
 
-  edition_sound : edition_check file (edition_known file) ≡ Sound
+  edition_sound : edition_check file (edition_known file) ≡ sound
   edition_sound = sound_edition file (edition_known file) (omega (arith, words_length)) (eq-eqb (word_at file 0) result_edition edition_here)
 
   -- As many words as the count tells, or more.
-  pub exactly : count ≤ most_results → length rest ≡ count * result_width → results_check file ≡ Sound
+  pub exactly : count ≤ most_results → length rest ≡ count * result_width → results_check file ≡ sound
   unfolding results_check
   exactly few size =
       sound_both (edition_check file (edition_known file)) (filled_check file result_count_place most_results result_width) edition_sound
       (sound_filled file result_count_place most_results result_width (omega (arith, words_length)) (omega (arith, count_here, few)) (omega (arith, words_length, count_here, size)))
 
-  pub and_more : count ≤ most_results → count * result_width < length rest → results_check file ≡ Fault 25 (16 + 8 * (count * result_width))
+  pub and_more : count ≤ most_results → count * result_width < length rest → results_check file ≡ fault BytesLeft (16 + 8 * (count * result_width))
   unfolding results_check
   and_more few more =
       let end : result_count_place + 8 + 8 * (row_count file * result_width) ≡ 16 + 8 * (count * result_width) = omega (arith, count_here) in
       ap₂ ◌⟫◌ edition_sound
       (left_behind file result_count_place most_results result_width (omega (arith, words_length)) (omega (arith, count_here, few)) (omega (arith, words_length, count_here, more))
-      ∙ ap (λ (p : ℕ). Fault 25 p) end)
+      ∙ ap (λ (p : ℕ). fault BytesLeft p) end)
 
   rest_here : Below (2 ^ 64) rest → words_from file (result_place 0) ≡ rest
   rest_here below = words_after (result_edition ∷ count ∷ []) rest below
 
 pub refused_file_is_25 : RefusedFileIs25
-refused_file_is_25 number = and_more 0 (number ∷ []) (omega arith) (omega arith) (omega arith)
+refused_file_is_25 number = subst (λ (c : Check). IsFault c 25 16) (sym (and_more 0 (number ∷ []) (omega arith) (omega arith) (omega arith))) (refl, refl)
 
 -- ---- The words of rows.
 row_words : (r : Row) → IsRow r → length (words_in r) ≡ result_width
@@ -192,10 +192,10 @@ compares_rows ls rs al ar same few run fits =
     let told : rows_told left right n ≡ all_between ls rs = ap (rows_told left right) (sym (zero-add n)) ∙ each left right 0 ls rs al ar same restL restR in
     let width : n * told_width ≡ 19 * n = omega arith in
     record {
-      answer = e ∙ ap (λ (m : ℕ). comparison.Compared m (largest_of left right m)) cl;
+      answer = e ∙ (λ i. Ok (record { count = cl i; largest = largest_of left right (cl i) }));
       in_figures = figures_of_lem left right 0 ls rs al ar restL restR;
       in_run =
-          (keeps_or_tells left right run).told _ _ e
+          (keeps_or_tells left right run).told _ e
           ∙ ap (λ (m : ℕ). rows_told left right m ++ drop (m * told_width) run) cl
           ∙ ap₂ (λ (l : List ℕ) (m : ℕ). l ++ drop m run) told width;
     }

@@ -1,5 +1,5 @@
 -- What is told, word after word: a figure more of a row, a row more of a run, and the largest distance with them.
-use Prim.Native.Nat.{ℕ, zero, suc, ◌+◌, ◌*◌, ◌≤◌}
+use Prim.Native.Nat.{ℕ, zero, suc, ◌*◌, ◌≤◌}
 use mathlib.Core.Path.{◌≡◌, refl, ap, ◌∙◌}
 use mathlib.Core.List.{List}
 use native.Mathlib.Omega.{arith}
@@ -12,7 +12,7 @@ use Rattle.files_differences.specs.declared.told.Figure.TheVariants as figure
 use Rattle.files_differences.specs.Told.{figure_words}
 use Rattle.files_compare.specs.Compare.{figure_on, figures_told, row_told, row_at, rows_told}
 
-figure_length : (f : Figure) → length (figure_words f) ≡ 2
+pub figure_length : (f : Figure) → length (figure_words f) ≡ 2
 figure_length (figure.Distance d) = refl
 figure_length figure.EqualBits = refl
 figure_length figure.UnequalBits = refl
@@ -28,13 +28,6 @@ module _ (l r : List ℕ) where
 
   pub row_length : length (row_told l r) ≡ told_width
   row_length = ap suc (figures_length result_figures)
-
-  pub next_figure : (run : List ℕ) (at n : ℕ) → at + 2 * suc n ≤ length run →
-      put (put run at (figures_told l r n)) (at + 2 * n) (figure_words (figure_on l r n)) ≡ put run at (figures_told l r (suc n))
-  unfolding figures_told
-  next_figure run at n h =
-      let e = figures_length n in
-      put_next run (figures_told l r n) (figure_words (figure_on l r n)) at (at + 2 * n) (omega (arith, e)) (omega (arith, e, figure_length (figure_on l r n)))
 
 module _ (left right : List ℕ) where
   abbrev row_of : (n : ℕ) → List ℕ

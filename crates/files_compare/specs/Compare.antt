@@ -1,20 +1,18 @@
 -- Document 02, T-07: "Read two result files. For each row and figure tell the distance in last places .., and the row and word of the first largest distance."
 -- "Refusals: 21, 22, 23 and 25, left file first .., then 51 row counts differ."
-use Rattle.std.specs.Prelude.{Bool, List, [], ◌∷◌, ◌++◌, ℕ, zero, suc, ◌+◌, ◌*◌, eqb, leb, length, take, drop}
+use Rattle.std.specs.Prelude.{Bool, Option, Some, None, Result, Ok, Err, List, [], ◌∷◌, ◌++◌, ℕ, zero, suc, ◌+◌, ◌*◌, eqb, leb, length, take, drop}
+use Rattle.bits.specs.declared.refusal.Refusal.TheVariants.{CountsDiffer, RoomTooShort}
 use Rattle.files_words.specs.Bytes.{word_at}
-use Rattle.files_checks.specs.declared.Check.{Check}
-use Rattle.files_checks.specs.declared.Check.TheVariants.{Sound, Fault}
-use Rattle.files_checks.specs.Checks.{need, ◌⟫◌, edition_check, filled_check}
+use Rattle.files_checks.specs.Checks.{Check, need, ◌⟫◌, edition_check, filled_check}
 use Rattle.files_formats.specs.Rows.{result_edition, result_count_place, result_width, most_results, result_place}
 use Rattle.files_formats.specs.Rows.{result_refusal, result_figure, result_figures, told_width}
 use Rattle.files_differences.specs.declared.told.RowKind.{RowKind}
 use Rattle.files_differences.specs.declared.told.Figure.{Figure}
 use Rattle.files_differences.specs.declared.told.Largest.{Largest}
-use Rattle.files_differences.specs.declared.told.Largest.TheVariants as largest
-use Rattle.files_differences.specs.declared.told.Side.{Side}
 use Rattle.files_differences.specs.declared.told.Side.TheVariants as side
-use Rattle.files_differences.specs.declared.told.Comparison.{Comparison}
-use Rattle.files_differences.specs.declared.told.Comparison.TheVariants as comparison
+use Rattle.files_differences.specs.declared.told.Side.{Side}
+use Rattle.files_differences.specs.declared.told.Compared.{Compared}
+use Rattle.files_differences.specs.declared.told.Refused.{Refused}
 use Rattle.files_differences.specs.Told.{row_kind_of, row_kind_word, figure_in, figure_words, largest_with, comparison_words}
 
 -- ---- A result file: its edition, a count of at most 1,500 rows, those rows, whose words may hold any bits, and nothing behind them.
@@ -49,7 +47,7 @@ module _ (l r : List ℕ) where
   row_told = row_kind_word kind_on ∷ figures_told result_figures
 
   -- The first largest distance of the first n figures of rows k and of those known before.
-  unfoldable pub largest_in_row : Largest → (k n : ℕ) → Largest
+  unfoldable pub largest_in_row : Option Largest → (k n : ℕ) → Option Largest
   largest_in_row known k zero = known
   largest_in_row known k (suc n) = largest_with (largest_in_row known k n) k (result_figure + n) (figure_on n)
 
@@ -69,8 +67,8 @@ module _ (left right : List ℕ) where
   rows_told zero = []
   rows_told (suc n) = rows_told n ++ row_told (row_at left n) (row_at right n)
 
-  unfoldable pub largest_of : (n : ℕ) → Largest
-  largest_of zero = largest.Nowhere
+  unfoldable pub largest_of : (n : ℕ) → Option Largest
+  largest_of zero = None
   largest_of (suc n) = largest_in_row (row_at left n) (row_at right n) (largest_of n) n result_figures
 
 -- How many words are told for all rows of a file.
@@ -78,24 +76,24 @@ abbrev pub words_needed : (left : List ℕ) → ℕ
 words_needed left = row_count left * told_width
 
 -- ---- What is answered. "21, 22, 23 and 25, left file first .., then 51 row counts differ", then 26 where the lent run is too short, with the words needed.
-abbrev pub unless_fault : Side → Check → Comparison → Comparison
-unless_fault s Sound next = next
-unless_fault s (Fault number place) next = comparison.Refused number s place
+abbrev pub unless_fault : {T : Type 0} → Option Side → Check → Result T Refused → Result T Refused
+unless_fault s (Ok sound) next = next
+unless_fault s (Err fault) next = Err (record { fault = fault; side = s })
 
-unfoldable pub comparison_of : (left right : List ℕ) (room : ℕ) → Comparison
+unfoldable pub comparison_of : (left right : List ℕ) (room : ℕ) → Result Compared Refused
 unfolding results_check
 comparison_of left right room =
     let count = row_count left in
-    unless_fault side.Left (results_check left)
-    (unless_fault side.Right (results_check right)
-    (unless_fault side.Neither (need (eqb count (row_count right)) 51 0)
-    (unless_fault side.Neither (need (leb (words_needed left) room) 26 (words_needed left))
-    (comparison.Compared count (largest_of left right count)))))
+    unless_fault (Some side.Left) (results_check left)
+    (unless_fault (Some side.Right) (results_check right)
+    (unless_fault None (need (eqb count (row_count right)) CountsDiffer 0)
+    (unless_fault None (need (leb (words_needed left) room) RoomTooShort (words_needed left))
+    (Ok (record { count = count; largest = largest_of left right count })))))
 
 -- What the lent run holds afterwards: the words of the rows, and behind them what it held; under a refusal, all that it held.
-abbrev pub unless_compared : Comparison → (kept told : List ℕ) → List ℕ
-unless_compared (comparison.Compared count l) kept told = told
-unless_compared (comparison.Refused number s place) kept told = kept
+abbrev pub unless_compared : Result Compared Refused → (kept told : List ℕ) → List ℕ
+unless_compared (Ok compared) kept told = told
+unless_compared (Err refused) kept told = kept
 
 unfoldable pub run_after : (left right run : List ℕ) → List ℕ
 run_after left right run =

@@ -1,8 +1,10 @@
 -- What a comparison means, without its steps: which files are compared and which refused, in document 02's order; what the first largest distance is; what is
 -- said of the rows of two files; that a file does not differ from itself, and that it does not matter which file is the left one.
-use Rattle.std.specs.Prelude.{◌≡◌, ◌⊎◌, List, [], ◌∷◌, ◌++◌, ℕ, suc, ◌+◌, ◌*◌, ◌/◌, ◌≤◌, ◌<◌, ◌^◌, length, drop, get_or}
+use Rattle.std.specs.Prelude.{◌≡◌, ◌⊎◌, Option, Some, None, Result, Ok, Err, List, [], ◌∷◌, ◌++◌, ℕ, suc, ◌+◌, ◌*◌, ◌/◌, ◌≤◌, ◌<◌, ◌^◌, length, drop, get_or}
+use Rattle.bits.specs.Refusal.{number_of}
 use Rattle.files_words.specs.Bytes.{word_at, as_bytes, Below}
-use Rattle.files_checks.specs.declared.Check.TheVariants.{Sound, Fault}
+use Rattle.files_checks.specs.declared.Fault.{Fault}
+use Rattle.files_checks.specs.Checks.{sound, IsFault}
 use Rattle.files_records.specs.Records.{AllOf, all_words}
 use Rattle.files_formats.specs.Rows.{result_edition, result_figure, result_figures}
 use Rattle.files_differences.specs.declared.told.RowKind.{RowKind}
@@ -10,11 +12,11 @@ use Rattle.files_differences.specs.declared.told.RowKind.TheVariants as kind
 use Rattle.files_differences.specs.declared.told.Figure.{Figure}
 use Rattle.files_differences.specs.declared.told.Figure.TheVariants as figure
 use Rattle.files_differences.specs.declared.told.Largest.{Largest}
-use Rattle.files_differences.specs.declared.told.Largest.TheVariants as largest
 use Rattle.files_differences.specs.declared.told.Side.{Side}
 use Rattle.files_differences.specs.declared.told.Side.TheVariants as side
-use Rattle.files_differences.specs.declared.told.Comparison.TheVariants as comparison
-use Rattle.files_differences.specs.Told.{row_kind_of, row_kind_word, figure_in, figure_words}
+use Rattle.files_differences.specs.declared.told.Compared.{Compared}
+use Rattle.files_differences.specs.declared.told.Refused.{Refused}
+use Rattle.files_differences.specs.Told.{of_side, row_kind_of, row_kind_word, figure_in, figure_words}
 use Rattle.files_compare.specs.Compare.{results_check, row_count, row_kind_at, figure_at, rows_told, largest_of, words_needed, comparison_of, run_after}
 
 -- ---- A file that is not refused: its edition is 1, it has at most 1,500 rows, and no byte more or less than they take.
@@ -24,11 +26,11 @@ pub record SoundFile (file : List ℕ) : Type 0 where
   pub size : length file ≡ 16 + 88 * row_count file
 
 abbrev pub SoundSo : Type 0
-SoundSo = (file : List ℕ) → results_check file ≡ Sound → SoundFile file
+SoundSo = (file : List ℕ) → results_check file ≡ sound → SoundFile file
 
 -- "the three words of a refused file are 25": at the third, whatever number it is.
 abbrev pub RefusedFileIs25 : Type 0
-RefusedFileIs25 = (number : ℕ) → results_check (as_bytes (1 ∷ 0 ∷ number ∷ [])) ≡ Fault 25 16
+RefusedFileIs25 = (number : ℕ) → IsFault (results_check (as_bytes (1 ∷ 0 ∷ number ∷ []))) 25 16
 
 -- A file that is refused: the first fault on the way, and where it is; what stands before it is right. 21 is at the first word that
 -- is not whole, 25 at the first byte left.
@@ -43,28 +45,29 @@ FaultIn file number place =
     ⊎ ((number ≡ 25) × (place ≡ 16 + 88 * row_count file) × EditionRight file × (row_count file ≤ 1500) × (place < length file))))
 
 abbrev pub FaultSo : Type 0
-FaultSo = (file : List ℕ) (number place : ℕ) → results_check file ≡ Fault number place → FaultIn file number place
+FaultSo = (file : List ℕ) (fault : Fault) → results_check file ≡ Err fault → FaultIn file (number_of fault.refusal) fault.place
 
 -- ---- "Refusals: 21, 22, 23 and 25, left file first .., then 51 row counts differ"; then 26, with the words needed.
+abbrev pub IsRefused : Result Compared Refused → (number : ℕ) → Option Side → (place : ℕ) → Type 0
+IsRefused (Ok compared) number s place = ⊥
+IsRefused (Err refused) number s place = (number_of refused.fault.refusal ≡ number) × (refused.side ≡ s) × (refused.fault.place ≡ place)
+
 pub record InOrder (left right : List ℕ) (room : ℕ) : Type 0 where
-  pub left_first : (number place : ℕ) → results_check left ≡ Fault number place → comparison_of left right room ≡ comparison.Refused number side.Left place
-  pub then_right : results_check left ≡ Sound → (number place : ℕ) → results_check right ≡ Fault number place →
-      comparison_of left right room ≡ comparison.Refused number side.Right place
-  pub then_51 : results_check left ≡ Sound → results_check right ≡ Sound → (row_count left ≡ row_count right → ⊥) →
-      comparison_of left right room ≡ comparison.Refused 51 side.Neither 0
-  pub then_26 : results_check left ≡ Sound → results_check right ≡ Sound → row_count left ≡ row_count right → room < words_needed left →
-      comparison_of left right room ≡ comparison.Refused 26 side.Neither (words_needed left)
-  pub else_compared : results_check left ≡ Sound → results_check right ≡ Sound → row_count left ≡ row_count right → words_needed left ≤ room →
-      comparison_of left right room ≡ comparison.Compared (row_count left) (largest_of left right (row_count left))
+  pub left_first : (fault : Fault) → results_check left ≡ Err fault → comparison_of left right room ≡ Err (of_side side.Left fault)
+  pub then_right : results_check left ≡ sound → (fault : Fault) → results_check right ≡ Err fault → comparison_of left right room ≡ Err (of_side side.Right fault)
+  pub then_51 : results_check left ≡ sound → results_check right ≡ sound → (row_count left ≡ row_count right → ⊥) → IsRefused (comparison_of left right room) 51 None 0
+  pub then_26 : results_check left ≡ sound → results_check right ≡ sound → row_count left ≡ row_count right → room < words_needed left →
+      IsRefused (comparison_of left right room) 26 None (words_needed left)
+  pub else_compared : results_check left ≡ sound → results_check right ≡ sound → row_count left ≡ row_count right → words_needed left ≤ room →
+      comparison_of left right room ≡ Ok (record { count = row_count left; largest = largest_of left right (row_count left) })
 
 abbrev pub RefusesInOrder : Type 0
 RefusesInOrder = (left right : List ℕ) (room : ℕ) → InOrder left right room
 
 -- Demand 1: "lent memory unchanged" under every refusal; else the words of the rows, and behind them what the run held.
 pub record KeptOrTold (left right run : List ℕ) : Type 0 where
-  pub kept : (number place : ℕ) (s : Side) → comparison_of left right (length run) ≡ comparison.Refused number s place → run_after left right run ≡ run
-  pub told : (count : ℕ) (l : Largest) → comparison_of left right (length run) ≡ comparison.Compared count l →
-      run_after left right run ≡ rows_told left right (row_count left) ++ drop (words_needed left) run
+  pub kept : (r : Refused) → comparison_of left right (length run) ≡ Err r → run_after left right run ≡ run
+  pub told : (c : Compared) → comparison_of left right (length run) ≡ Ok c → run_after left right run ≡ rows_told left right (row_count left) ++ drop (words_needed left) run
 
 abbrev pub KeepsOrTells : Type 0
 KeepsOrTells = (left right run : List ℕ) → KeptOrTold left right run
@@ -84,10 +87,10 @@ module _ (left right : List ℕ) where
     pub none_larger : (r i e : ℕ) → i < result_figures → Earlier r i row n → figure_at left right r i ≡ figure.Distance e → e ≤ d
     pub all_smaller : (r i e : ℕ) → i < result_figures → Earlier r i k j → figure_at left right r i ≡ figure.Distance e → e < d
 
-  -- Nowhere: none of them has a distance.
-  abbrev pub FirstLargest : (row n : ℕ) → Largest → Type 0
-  FirstLargest row n largest.Nowhere = (r i e : ℕ) → i < result_figures → Earlier r i row n → figure_at left right r i ≡ figure.Distance e → ⊥
-  FirstLargest row n (largest.At k word d) = (j : ℕ) × ((word ≡ result_figure + j) × IsFirst row n k j d)
+  -- None: none of them has a distance.
+  abbrev pub FirstLargest : (row n : ℕ) → Option Largest → Type 0
+  FirstLargest row n None = (r i e : ℕ) → i < result_figures → Earlier r i row n → figure_at left right r i ≡ figure.Distance e → ⊥
+  FirstLargest row n (Some l) = (j : ℕ) × ((l.word ≡ result_figure + j) × IsFirst row n l.row j l.distance)
 
 -- For all rows: the figures before figure 0 of the row behind the last.
 abbrev pub LargestIsFirst : Type 0
@@ -164,7 +167,7 @@ FiguresOf left right k (l ∷ ls) (r ∷ rs) =
 
 -- Files with the same number of rows, 1,500 at most, are compared where the run is long enough; it then holds the words of all rows, in their order.
 pub record RowsCompared (ls rs : List Row) (run : List ℕ) : Type 0 where
-  pub answer : comparison_of (file_of ls) (file_of rs) (length run) ≡ comparison.Compared (length ls) (largest_of (file_of ls) (file_of rs) (length ls))
+  pub answer : comparison_of (file_of ls) (file_of rs) (length run) ≡ Ok (record { count = length ls; largest = largest_of (file_of ls) (file_of rs) (length ls) })
   pub in_run : run_after (file_of ls) (file_of rs) run ≡ all_between ls rs ++ drop (19 * length ls) run
   pub in_figures : FiguresOf (file_of ls) (file_of rs) 0 ls rs
 
