@@ -5,11 +5,11 @@ ghost use Rattle.bits.specs.Words.{place_of};
 use bits::words::place_of;
 
 // A time in seconds (s).
-#[derive(Clone, Copy)]
+#[derive(Clone, Copy, Debug, PartialEq)]
 pub struct Seconds(pub f64);
 
 // An anomaly, psi of document 01, in seconds per kilometre (s/km).
-#[derive(Clone, Copy)]
+#[derive(Clone, Copy, Debug, PartialEq)]
 pub struct Anomaly(pub f64);
 
 impl Anomaly {
@@ -22,7 +22,7 @@ impl Anomaly {
 }
 
 // c0 to c5 of an anomaly, plain numbers.
-#[derive(Clone, Copy)]
+#[derive(Clone, Copy, Debug, PartialEq)]
 pub struct Coefficients {
     pub c0: f64,
     pub c1: f64,
@@ -33,7 +33,7 @@ pub struct Coefficients {
 }
 
 // s1, s2 and s3 of an anomaly, in s/km and its second and third powers.
-#[derive(Clone, Copy)]
+#[derive(Clone, Copy, Debug, PartialEq)]
 pub struct Sums {
     pub s1: f64,
     pub s2: f64,
@@ -41,7 +41,7 @@ pub struct Sums {
 }
 
 // c0 and the sums of an anomaly: what a trial point needs.
-#[derive(Clone, Copy)]
+#[derive(Clone, Copy, Debug, PartialEq)]
 pub struct FirstSums {
     pub c0: f64,
     pub sums: Sums,

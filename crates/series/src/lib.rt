@@ -2,9 +2,9 @@
 // alpha is in km^2/s^2 and psi in s/km, so L and c0 to c5 are plain numbers.
 #![tactic(auto)]
 
-ghost use Rattle.std.specs.Prelude.{◌≡◌, ltb};
-ghost use Rattle.bits.specs.Choice.{pick};
-ghost use Rattle.series.specs.Series.{first_l, beyond_one, reduced, c4_of, c5_of, at_reduced, doublings, quotients_of, coefficients_of, sums_of};
+ghost use Rattle.std.specs.Prelude.{◌≡◌, fold, reverse};
+ghost use Rattle.bits.specs.Arithmetic.{n1, ◌⊕◌, ◌⊗◌, ◌⊘◌};
+ghost use Rattle.series.specs.Series.{first_l, beyond_one, reduced, c4_of, c5_of, at_reduced, doublings, quotients_of, coefficients_from, coefficients_of, sums_of};
 
 pub mod figures;
 
@@ -25,21 +25,21 @@ struct FirstTwo {
 }
 
 // c0 to c5 of the anomaly psi, bit for bit as document 01 rounds them. Where alpha·(psi·psi) is not finite they mean nothing: a caller tests it.
+// It and `restored` are compiled into their callers: a trial point takes 15 instructions more where they are calls of their own.
+#[inline(always)]
 pub fn coefficients(alpha: f64, psi: Anomaly) -> Coefficients
     ensures { result ≡ coefficients_of alpha psi }
 {
     let l = first_l(alpha, psi);
     let reduced = reduce(l);
-    restored(l, reduced.m, at_reduced(reduced.l))
+    restored(l, reduced)
 }
 
 // c0 and the sums of the anomaly psi: all that a trial point needs. A call of its own, so that it can be compiled into the search's loop and without c4 and c5.
 pub fn first_sums(alpha: f64, psi: Anomaly) -> FirstSums
     ensures { result ≡ record { c0 = (coefficients_of alpha psi).c0; sums = sums_of psi (coefficients_of alpha psi) } }
 {
-    let l = first_l(alpha, psi);
-    let reduced = reduce(l);
-    let c = restored(l, reduced.m, at_reduced(reduced.l));
+    let c = coefficients(alpha, psi);
     FirstSums {
         c0: c.c0,
         sums: sums(psi, c),
@@ -69,56 +69,47 @@ fn first_l(alpha: f64, psi: Anomaly) -> f64
 fn beyond_one(l: f64) -> bool
     ensures { result ≡ beyond_one l }
 {
+    // Not `l.abs() > 1.0`: it takes 1 to 4 instructions more a division.
     l > 1.0 || l < -1.0
 }
 
 // L divided by 4 while |L| > 1, at most 512 times. No finite L needs more (the law `enough`); an infinite one stops there.
-fn reduce(first: f64) -> Reduced
-    ensures { result ≡ reduced first }
+fn reduce(mut l: f64) -> Reduced
+    ensures { result ≡ reduced l }
 {
-    let mut l = first;
-    let mut m = 0u64;
-    while m < 512 {
-        if beyond_one(l) {
-            l = l / 4.0;
-            m += 1;
-        } else {
+    for m in 0..512 {
+        if !beyond_one(l) {
             return Reduced { l, m };
         }
+        l /= 4.0;
     }
-    Reduced { l, m }
+    Reduced { l, m: 512 }
+}
+
+// The divisors of c4 and those of c5, in document 01's order.
+const DIVISORS_OF_C4: [f64; 8] = [30.0, 56.0, 90.0, 132.0, 182.0, 240.0, 306.0, 380.0];
+
+const DIVISORS_OF_C5: [f64; 8] = [42.0, 72.0, 110.0, 156.0, 210.0, 272.0, 342.0, 420.0];
+
+// p of a reduced L: from 1, by each divisor from the last to the first.
+fn nested(l: f64, divisors: [f64; 8]) -> f64
+    ensures { result ≡ fold (λ p d. n1 ⊕ (l ⊗ p) ⊘ d) n1 (reverse divisors) }
+{
+    divisors.iter().rev().fold(1.0, |p, d| 1.0 + (l * p) / *d)
 }
 
 // c4 at a reduced L.
 fn c4_of(l: f64) -> f64
     ensures { result ≡ c4_of l }
 {
-    let mut p = 1.0;
-    p = 1.0 + (l * p) / 380.0;
-    p = 1.0 + (l * p) / 306.0;
-    p = 1.0 + (l * p) / 240.0;
-    p = 1.0 + (l * p) / 182.0;
-    p = 1.0 + (l * p) / 132.0;
-    p = 1.0 + (l * p) / 90.0;
-    p = 1.0 + (l * p) / 56.0;
-    p = 1.0 + (l * p) / 30.0;
-    p / 24.0
+    nested(l, DIVISORS_OF_C4) / 24.0
 }
 
 // c5 at a reduced L.
 fn c5_of(l: f64) -> f64
     ensures { result ≡ c5_of l }
 {
-    let mut p = 1.0;
-    p = 1.0 + (l * p) / 420.0;
-    p = 1.0 + (l * p) / 342.0;
-    p = 1.0 + (l * p) / 272.0;
-    p = 1.0 + (l * p) / 210.0;
-    p = 1.0 + (l * p) / 156.0;
-    p = 1.0 + (l * p) / 110.0;
-    p = 1.0 + (l * p) / 72.0;
-    p = 1.0 + (l * p) / 42.0;
-    p / 120.0
+    nested(l, DIVISORS_OF_C5) / 120.0
 }
 
 // All six at a reduced L.
@@ -141,27 +132,25 @@ fn at_reduced(l: f64) -> Coefficients
     }
 }
 
-// All six of the first L, from those at L after m divisions.
-fn restored(l: f64, m: u64, six: Coefficients) -> Coefficients
-    ensures { result ≡ pick (ltb 0 m) (quotients_of l (doublings m six.c0 six.c1)) six }
+// All six of the first L, from L after its divisions.
+#[inline(always)]
+fn restored(l: f64, reduced: Reduced) -> Coefficients
+    ensures { result ≡ coefficients_from l reduced }
 {
-    if m == 0 {
+    let six = at_reduced(reduced.l);
+    if reduced.m == 0 {
         return six;
     }
-    quotients(l, double(m, six.c0, six.c1))
+    quotients(l, double(reduced.m, six.c0, six.c1))
 }
 
 // c0 and c1 after m doublings. c1 goes first: it takes the old c0.
-fn double(m: u64, first: f64, second: f64) -> FirstTwo
-    ensures { result ≡ doublings m first second }
+fn double(m: u64, mut c0: f64, mut c1: f64) -> FirstTwo
+    ensures { result ≡ doublings m c0 c1 }
 {
-    let mut c0 = first;
-    let mut c1 = second;
-    let mut left = m;
-    while left > 0 {
+    for _ in 0..m {
         c1 = c0 * c1;
         c0 = 2.0 * (c0 * c0) - 1.0;
-        left -= 1;
     }
     FirstTwo { c0, c1 }
 }

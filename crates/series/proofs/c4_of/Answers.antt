@@ -1,8 +1,7 @@
--- The steps of the code are the nested form written out.
-use mathlib.Core.Path.{refl}
+-- Over the document's divisors, the fold is the nested form written out.
 use Rattle.series.specs.Series.{nested, c4_of}
 use Rattle.series.proofs.c4_of.Goals as goal
 
 pub returns : goal.returns
 unfolding nested c4_of
-returns c = refl
+returns c = simp c.nested.ensures

@@ -4,4 +4,4 @@ use Rattle.series.proofs.coefficients.Goals as goal
 
 pub returns : goal.returns
 unfolding coefficients_of
-returns c = simp (c.at_reduced.ensures, c.reduce-reduced.ensures, c.first_l-l.ensures) at c.restored.ensures
+returns c = simp (c.reduce-reduced.ensures, c.first_l-l.ensures) at c.restored.ensures

@@ -3,10 +3,10 @@ use native.Mathlib.Omega.{arith}
 use borrow.Author.Tests.{lt-ltb, le-ltb}
 use Rattle.series.proofs.restored.Goals as goal
 
-pub returns-then-m-eq0 : goal.returns-then-m-eq0
-returns-then-m-eq0 c = simp (le-ltb 0 c.args.m (omega arith))
+pub returns-then-reduced-eq0 : goal.returns-then-reduced-eq0
+returns-then-reduced-eq0 c = simp (le-ltb 0 c.args.reduced.m (omega arith), c.at_reduced-six.ensures)
 
 pub returns : goal.returns
 returns c =
-    simp (lt-ltb 0 c.args.m (omega (arith, c.if-m-eq0.false)))
+    simp (lt-ltb 0 c.args.reduced.m (omega (arith, c.if-reduced-eq0.false)), ← c.at_reduced-six.ensures)
     (simp c.double.ensures at c.quotients.ensures)
