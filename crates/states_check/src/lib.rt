@@ -16,10 +16,7 @@ use states_arcs::{Arc, Results, ended, figures_of};
 fn ends_with(end: Result<Results, Refusal>, nine: [u64; 9]) -> bool
     ensures { result ≡ ends_with end nine }
 {
-    let Ok(results) = end else {
-        return false;
-    };
-    bits::are_same(&figures_of(results)[..9], &nine)
+    end.is_ok_and(|results| bits::are_same(&figures_of(results)[..9], &nine))
 }
 
 // Whether the anomaly of an arc is right for the interval that is searched, and the arc ends with these nine words.
@@ -35,8 +32,6 @@ fn accepts_at(arc: Arc, anomaly: u64, nine: [u64; 9]) -> bool
 pub fn accepts(given: [u64; 8], anomaly: u64, nine: [u64; 9]) -> bool
     ensures { result ≡ accepts given anomaly nine }
 {
-    let Ok(reached) = reach(given, Seeking::Given(Anomaly(double_of(anomaly)))) else {
-        return false;
-    };
-    accepts_at(reached.arc, anomaly, nine)
+    let seeking = Seeking::Given(Anomaly(double_of(anomaly)));
+    reach(given, seeking).is_ok_and(|reached| accepts_at(reached.arc, anomaly, nine))
 }
