@@ -1,23 +1,20 @@
 -- Our own rows are rows, and pass in a file.
 use Prim.Native.Nat.{ℕ, ◌^◌, ◌<◌}
 use mathlib.Core.Path.{◌≡◌, refl, sym, ap, ap₂, subst, ◌∙◌}
-use mathlib.Core.Bool.{Bool}
 use mathlib.Core.Logic.{inl, inr}
 use mathlib.Core.List.{List, [], ◌∷◌, ◌++◌, map}
 use native.Mathlib.Omega.{arith}
-use borrow.Author.Tests.{le-leb}
 use lib.Dec.{T}
 use lib.Ieee.{Float, binary64, fits, neg, to_bits}
 use lib.Ieee.Bits.{to_bits-lt, of_bits-fits}
 use lib.Ieee.Fits.{add-fits, div-fits}
 use lib.ListN.{length, drop, replicate}
 use Rattle.bits.specs.Arithmetic.{◌⊗◌}
-use Rattle.bits.specs.Choice.{pick}
+use Rattle.bits.proofs.RefusalLaws.{number_bounds}
+use Rattle.std.specs.Prelude.{Ok, Err}
 use Rattle.series.specs.declared.figures.Anomaly.{Anomaly}
 use Rattle.series.specs.declared.figures.Seconds.{Seconds}
-use Rattle.search.specs.Search.{Proposing}
-use Rattle.search.specs.declared.figures.Finding.{Finding}
-use Rattle.search.specs.declared.figures.Finding.TheVariants as finding
+use Rattle.search.specs.Search.{Finding, Proposing, found_with}
 use Rattle.search_points.specs.declared.figures.Initial.{Initial}
 use Rattle.search_check.proofs.RightLaws.{finds_right}
 use Rattle.states_revolutions.specs.Revolutions.{interval_of}
@@ -28,10 +25,9 @@ use Rattle.states_start.specs.declared.figures.Vector.{Vector}
 use Rattle.states_arcs.specs.Results.{combined, end_state_of, arc_of, acceleration_of, results_of, figures_of, ended_of}
 use Rattle.states_arcs.specs.declared.figures.Results.{Results}
 use Rattle.states_arcs.proofs.EndLaws.{seven_or_eight}
-use Rattle.states.specs.Call.{refused, answered, ended_answer, answer_from, reached_found, propagate_by}
+use Rattle.states.specs.Call.{Reaching, Answering, refusal_of, ended_answer, answer_from, reached_found, propagate_by}
+use Rattle.states.specs.Call.{results_of as figures_in}
 use Rattle.states.specs.CallPromise.{Searches, interval_in, searched_in}
-use Rattle.states.specs.declared.figures.Answer.{Answer}
-use Rattle.states.specs.declared.figures.Reached.{Reached}
 use Rattle.states.proofs.CallPromise.{Settled, settled, found_by, reaches, psi_of_lem}
 use Rattle.states_check.specs.Row.{nine_words}
 use Rattle.states_check.specs.RowPromise.{anomaly_in, nine_in}
@@ -82,12 +78,8 @@ unfolding results_of arc_of end_state_of
 arc_below s d psi = nine_below (results_of (arc_of s d psi)) (combined_doubles _ _ _ _) (combined_doubles _ _ _ _) (acceleration_doubles _ _ _)
 
 -- ---- Our own row.
-refusal_of_lem : (k n : ℕ) → (refused k n).refusal ≡ k
-unfolding refused
-refusal_of_lem k n = refl
-
 -- The words of an answer that is not refused: its figures are those of an arc, and its anomaly the arc's.
-pub record Words (a : Answer) : Type 0 where
+pub record Words (a : Answering) : Type 0 where
   anomaly : anomaly_in a < 2 ^ 64
   nine : Below (2 ^ 64) (nine_in a)
 
@@ -95,19 +87,18 @@ module _ (s : Start) (d : Interval) (psi : Anomaly) (double : Double psi.0) wher
   abbrev results : Results
   results = results_of (arc_of s d psi)
 
-  by_settled : (a : Answer) (n : ℕ) → Settled a n results → a.refusal ≡ 0 → Words a
-  unfolding answered
+  by_settled : (a : Answering) (n : ℕ) → Settled a n results → refusal_of a ≡ 0 → Words a
   by_settled a n (inl e) z =
-      let same : a.results ≡ results = ap (λ (x : Answer). x.results) e in
-      let is-psi : a.results.psi ≡ psi = ap (λ (r : Results). r.psi) same ∙ psi_of_lem s d psi in
+      let same : figures_in a ≡ results = ap figures_in e in
+      let is-psi : (figures_in a).psi ≡ psi = ap (λ (r : Results). r.psi) same ∙ psi_of_lem s d psi in
       record {
         anomaly = subst (λ (x : Anomaly). to_bits binary64 x.0 < 2 ^ 64) (sym is-psi) (to_bits-lt binary64 psi.0 double);
         nine = subst (λ (r : Results). Below (2 ^ 64) (nine_words r)) (sym same) (arc_below s d psi);
       }
-  by_settled a n (inr (inl e)) z = absurd (omega (arith, z, ap (λ (x : Answer). x.refusal) e, refusal_of_lem 7 n))
-  by_settled a n (inr (inr e)) z = absurd (omega (arith, z, ap (λ (x : Answer). x.refusal) e, refusal_of_lem 8 n))
+  by_settled a n (inr (inl e)) z = absurd (omega (arith, z, ap refusal_of e))
+  by_settled a n (inr (inr e)) z = absurd (omega (arith, z, ap refusal_of e))
 
-  found_words : (n : ℕ) → (answer_from (reached_found s d (finding.Found psi n))).refusal ≡ 0 → Words (answer_from (reached_found s d (finding.Found psi n)))
+  found_words : (n : ℕ) → refusal_of (answer_from (reached_found s d (found_with psi n))) ≡ 0 → Words (answer_from (reached_found s d (found_with psi n)))
   unfolding reached_found
   found_words n z = let arc = arc_of s d psi in by_settled (ended_answer n (ended_of arc)) n (settled n (ended_of arc) (results_of arc) (seven_or_eight arc)) z
 
@@ -118,21 +109,21 @@ module _ (pr : Proposing) (given : List ℕ) (s : Searches interval_of given) wh
   abbrev tau : Seconds
   tau = searched_in s
 
-  from_found : (x : Finding) → found_by pr i tau ≡ x → (answer_from (reached_found s.start (interval_in s) x)).refusal ≡ 0 →
+  from_found : (x : Finding) → found_by pr i tau ≡ x → refusal_of (answer_from (reached_found s.start (interval_in s) x)) ≡ 0 →
       Words (answer_from (reached_found s.start (interval_in s) x))
   unfolding reached_found
-  from_found (finding.Found psi n) e z =
-      let f = finds_right (pr i tau) i tau (first_step_of i tau) psi n e in
+  from_found (Ok found) e z =
+      let psi = found.psi in
+      let f = finds_right (pr i tau) i tau (first_step_of i tau) psi found.points e in
       let double : Double psi.0 = subst (λ (x : Anomaly). Double x.0) f.same (of_bits-fits binary64 (to_bits binary64 psi.0)) in
-      found_words s.start (interval_in s) psi double n z
-  from_found (finding.AllShort n) e z = absurd (omega (arith, z, refusal_of_lem 5 n))
-  from_found (finding.Unreadable n) e z = absurd (omega (arith, z, refusal_of_lem 6 n))
+      found_words s.start (interval_in s) psi double found.points z
+  from_found (Err refused) e z = absurd (omega (arith, z, number_bounds refused.refusal))
 
-  answer_words_lem : (propagate_by interval_of pr given).refusal ≡ 0 → Words (propagate_by interval_of pr given)
+  answer_words_lem : refusal_of (propagate_by interval_of pr given) ≡ 0 → Words (propagate_by interval_of pr given)
   unfolding propagate_by
   answer_words_lem z =
       let e = reaches interval_of pr given s refl in
-      subst (λ (r : Reached). Words (answer_from r)) (sym e) (from_found (found_by pr i tau) refl (ap (λ (r : Reached). (answer_from r).refusal) (sym e) ∙ z))
+      subst (λ (r : Reaching). Words (answer_from r)) (sym e) (from_found (found_by pr i tau) refl (ap (λ (r : Reaching). refusal_of (answer_from r)) (sym e) ∙ z))
 
 pub our_row_is : OurRowIs
 our_row_is pr given h =
@@ -141,7 +132,7 @@ our_row_is pr given h =
     let w = answer_words_lem pr given x.searches h.not_refused in
     record {
       eight_given = h.eight;
-      nine_figures = nine_length a.results;
+      nine_figures = nine_length (figures_in a);
       are_words = below_append (2 ^ 64) given (anomaly_in a ∷ nine_in a) h.are_words (w.anomaly, w.nine);
     }
 
@@ -160,6 +151,6 @@ pub our_files_pass : OurFilesPass
 our_files_pass rows ours few run room =
     let j = judges_rows rows (are_rows rows ours) few run in
     record {
-      answer = j.answer ∙ ap (λ (b : Bool). record { number = pick b 0 26; place_or_rows = length rows }) (le-leb (length rows) (length run) room);
+      answer = j.answer room;
       verdicts = j.verdicts room ∙ ap (λ (l : List ℕ). l ++ drop (length rows) run) (all_ones rows ours);
     }

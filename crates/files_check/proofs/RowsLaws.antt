@@ -1,23 +1,26 @@
 -- A file of rows has them, each in its place.
 use Prim.Native.Nat.{ℕ, zero, suc, ◌+◌, ◌*◌, ◌^◌, ◌≤◌}
-use mathlib.Core.Path.{◌≡◌, refl, sym, ap, ap₂, ◌∙◌}
-use mathlib.Core.Bool.{Bool}
+use mathlib.Core.Path.{◌≡◌, refl, sym, ap, ap₂, subst, ◌∙◌}
+use mathlib.Core.Bool.{Bool, true, false}
 use mathlib.Core.List.{List, [], ◌∷◌, ◌++◌, map, append_assoc, append-nil}
 use native.Mathlib.Omega.{arith}
 use native.Mathlib.Nat.{add-zero, zero-add}
-use borrow.Author.Tests.{le-leb}
+use borrow.Author.Tests.{le-leb, lt-leb}
+use lib.Dec.{leb}
+use Rattle.std.specs.Prelude.{Result, Ok}
+use Rattle.bits.specs.declared.refusal.Refusal.TheVariants.{RoomTooShort}
 use lib.ListN.{length, length-append, take, drop, get_or}
 use lib.Seq.{append_snoc, take_at, take-suc, drop_at, get_or_at}
-use Rattle.bits.specs.Choice.{pick}
 use Rattle.files_words.specs.Bytes.{words_from, Below}
 use Rattle.files_words.proofs.WordLaws.{length-as_bytes, words_after, words_later, word_of_words}
 use Rattle.files_records.specs.Records.{all_words}
 use Rattle.files_records.proofs.AllLaws.{all_length, all_below}
-use Rattle.files_checks.specs.declared.Check.TheVariants.{Sound}
+use Rattle.files_checks.specs.declared.Fault.{Fault}
+use Rattle.files_checks.specs.Checks.{sound, need, IsFault, ◌⟫◌}
 use Rattle.files_checks.proofs.CountedLaws.{sound_filled}
 use Rattle.files_formats.specs.Rows.{checked_count_place, checked_width, most_checked, checked_place, given_words, checked_anomaly, checked_figure, checked_figures}
 use Rattle.states_check.proofs.RowLaws.{accepts_own}
-use Rattle.files_check.specs.RowsFile.{rows_in, rows_check, each_of, fields_at, given_at, proposed_at, nine_at, verdict_of, verdict_at, verdicts_of, judged_of, judged_by, verdicts_after, verdicts_by}
+use Rattle.files_check.specs.RowsFile.{rows_in, rows_check, each_of, fields_at, given_at, proposed_at, nine_at, verdict_of, verdict_at, verdicts_of, rows_fit, judged_of, with_verdicts, unless_fault, verdicts_after}
 use Rattle.files_check.specs.RowsPromise.{Row, words_in, IsRow, AreRows, file_of, verdict_on, JudgesRows, OurRowsPass}
 
 pub our_rows_pass : OurRowsPass
@@ -51,9 +54,9 @@ module _ (rows : List Row) (are : AreRows rows) (few : length rows ≤ most_chec
   rest_here : words_from file (checked_place 0) ≡ rows_words rows
   rest_here = words_after (n ∷ []) (rows_words rows) all_below_2^64.1
 
-  sound : rows_check file ≡ Sound
+  sound_rows : rows_check file ≡ sound
   unfolding rows_check
-  sound =
+  sound_rows =
       sound_filled file checked_count_place most_checked checked_width (omega (arith, file_length)) (omega (arith, count_here, few)) (omega (arith, file_length, count_here))
 
 -- So many words from a place on.
@@ -115,13 +118,17 @@ pub judges_rows : JudgesRows
 unfolding judged_of verdicts_after each_of
 judges_rows rows are few run =
     let file = file_of rows in
-    let s = sound rows are few in
+    let n = length rows in
+    let s = sound_rows rows are few in
     let c = count_here rows are few in
-    let all : verdicts_of file (length rows) ≡ map verdict_on rows = ap (verdicts_of file) (sym (zero-add (length rows))) ∙ each file 0 rows are (rest_here rows are few) in
+    let all : verdicts_of file n ≡ map verdict_on rows = ap (verdicts_of file) (sym (zero-add n)) ∙ each file 0 rows are (rest_here rows are few) in
+    let fit : (b : Bool) → leb n (length run) ≡ b → rows_fit file (length run) ≡ need b RoomTooShort n =
+    λ b e. (λ i. s i ⟫ need (leb (c i) (length run)) RoomTooShort (c i)) ∙ ap (λ (b : Bool). need b RoomTooShort n) e
+    in
     record {
-      answer = λ i. judged_by (s i) (c i) (length run);
+      answer = λ h. (λ i. fit true (le-leb n (length run) h) i ⟫ Ok (c i));
+      too_short = λ h. subst (λ (r : Result ℕ Fault). IsFault r 26 n) (sym (λ i. fit false (lt-leb n (length run) h) i ⟫ Ok (c i))) (refl, refl);
       verdicts =
-          λ h. (λ i. verdicts_by (s i) file (c i) run)
-          ∙ ap (λ (b : Bool). pick b (verdicts_of file (length rows) ++ drop (length rows) run) run) (le-leb (length rows) (length run) h)
-          ∙ ap (λ (l : List ℕ). l ++ drop (length rows) run) all;
+          λ h. (λ i. unless_fault (fit true (le-leb n (length run) h) i) run (with_verdicts file (c i) run))
+          ∙ ap (λ (l : List ℕ). l ++ drop n run) all;
     }

@@ -1,8 +1,9 @@
 -- Rows with the verdict that document 02 gives them (T-06), through the whole of a file, and files with their refusals; then one statement each, computed from
 -- the definitions. All figures are worked out by hand, in small whole numbers.
-use Rattle.std.specs.Prelude.{◌≡◌, refl, List, [], ◌∷◌, ◌++◌, map, ℕ, ◌+◌, length, take}
+use Rattle.std.specs.Prelude.{◌≡◌, refl, Result, Ok, Err, List, [], ◌∷◌, ◌++◌, map, ℕ, ◌+◌, length, take}
 use Rattle.std.specs.Float.Ieee.{add, sub, mul, div, neg, lt, eq, ne, of_int, of_bits, to_bits}
 use Rattle.bits.specs.Words.{minus_zero}
+use Rattle.bits.specs.Refusal.{number_of as refusal_number}
 use Rattle.bits.specs.Runs.{first_of, has, same_words}
 use Rattle.bits.specs.Root.{root_word_of, root_of}
 use Rattle.series.specs.Series.{beyond_one, reduced_from, nested, c4_of, c5_of, at_reduced, doublings, quotients_of, coefficients_of, sums_of}
@@ -19,9 +20,9 @@ use Rattle.states_start.specs.Initial.{dot, begun_of, first_step_of}
 use Rattle.states.specs.Call.{reached_found, reached_over_by, reached_from_by, reached_orbit_by, reached_words_by}
 use Rattle.states_check.specs.Row.{accepts_at, accepts}
 use Rattle.files_words.specs.Bytes.{number_of, bytes_of, as_bytes, words, words_from, word_at}
+use Rattle.files_checks.specs.declared.Fault.{Fault}
 use Rattle.files_checks.specs.Checks.{walk, count_check, counted_check, filled_check}
 use Rattle.files_check.specs.RowsFile.{rows_check, each_of, verdict_of, judged_of, verdicts_after}
-use Rattle.files_check.specs.declared.Judged.{Judged}
 
 -- ---- Rows.
 
@@ -168,9 +169,11 @@ files =
     ∷ answers (as_bytes (0 ∷ [])) 0 0 0
     ∷ []
 
-abbrev must_be : FileCase → Judged
-must_be c = record { number = c.number; place_or_rows = c.second }
+-- An answer as two words.
+abbrev as_words : Result ℕ Fault → List ℕ
+as_words (Ok rows) = 0 ∷ rows ∷ []
+as_words (Err fault) = refusal_number fault.refusal ∷ fault.place ∷ []
 
-pub marked_files : map (λ (c : FileCase). judged_of c.file c.room) files ≡ map must_be files
+pub marked_files : map (λ (c : FileCase). as_words (judged_of c.file c.room)) files ≡ map (λ (c : FileCase). c.number ∷ c.second ∷ []) files
 unfolding judged_of rows_check filled_check counted_check count_check walk words words_from word_at number_of bytes_of as_bytes
 marked_files = refl

@@ -1,10 +1,10 @@
 -- Document 02, T-06: "Rows come 18 words each after a count of 0 to 400. Refusals: 21, 23, 25 as for element files, then a verdict per row."
-use Rattle.std.specs.Prelude.{List, [], ◌∷◌, ◌++◌, ℕ, zero, suc, ◌+◌, ◌*◌, leb, length, drop}
+use Rattle.std.specs.Prelude.{Result, Ok, Err, List, [], ◌∷◌, ◌++◌, ℕ, zero, suc, ◌+◌, ◌*◌, leb, length, drop}
 use Rattle.bits.specs.Choice.{pick}
+use Rattle.bits.specs.declared.refusal.Refusal.TheVariants.{RoomTooShort}
 use Rattle.files_words.specs.Bytes.{word_at}
-use Rattle.files_checks.specs.declared.Check.{Check}
-use Rattle.files_checks.specs.declared.Check.TheVariants.{Sound, Fault}
-use Rattle.files_checks.specs.Checks.{filled_check}
+use Rattle.files_checks.specs.declared.Fault.{Fault}
+use Rattle.files_checks.specs.Checks.{Check, need, ◌⟫◌, filled_check}
 use Rattle.files_formats.specs.Rows.{
   checked_count_place,
   checked_width,
@@ -16,7 +16,6 @@ use Rattle.files_formats.specs.Rows.{
   checked_figures,
 }
 use Rattle.states_check.specs.Row.{accepts}
-use Rattle.files_check.specs.declared.Judged.{Judged}
 
 -- ---- "18 words each after a count of 0 to 400": how many rows a file counts. "21, 23, 25 as for element files": the count, that many rows, whose words may
 -- hold any bits, and the end.
@@ -57,20 +56,19 @@ abbrev pub verdicts_of : List ℕ → (n : ℕ) → List ℕ
 verdicts_of file n = each_of (verdict_at file) n
 
 -- ---- What is answered: a refusal with its place, or the rows; 26 where the lent run is too short, "after the others", with the rows.
-abbrev pub judged_by : Check → (rows room : ℕ) → Judged
-judged_by Sound rows room = record { number = pick (leb rows room) 0 26; place_or_rows = rows }
-judged_by (Fault number place) rows room = record { number = number; place_or_rows = place }
+abbrev pub rows_fit : List ℕ → (room : ℕ) → Check
+rows_fit file room = rows_check file ⟫ need (leb (rows_in file) room) RoomTooShort (rows_in file)
 
-unfoldable pub judged_of : List ℕ → (room : ℕ) → Judged
-judged_of file room = judged_by (rows_check file) (rows_in file) room
+unfoldable pub judged_of : List ℕ → (room : ℕ) → Result ℕ Fault
+judged_of file room = rows_fit file room ⟫ Ok (rows_in file)
 
 -- What the lent run holds afterwards: the verdicts, and behind them what it held; under a refusal, all that it held.
 abbrev pub with_verdicts : List ℕ → (n : ℕ) → (run : List ℕ) → List ℕ
 with_verdicts file n run = verdicts_of file n ++ drop n run
 
-abbrev pub verdicts_by : Check → List ℕ → (rows : ℕ) → (run : List ℕ) → List ℕ
-verdicts_by Sound file rows run = pick (leb rows (length run)) (with_verdicts file rows run) run
-verdicts_by (Fault number place) file rows run = run
+abbrev pub unless_fault : Check → (kept judged : List ℕ) → List ℕ
+unless_fault (Ok sound) kept judged = judged
+unless_fault (Err fault) kept judged = kept
 
 unfoldable pub verdicts_after : List ℕ → (run : List ℕ) → List ℕ
-verdicts_after file run = verdicts_by (rows_check file) file (rows_in file) run
+verdicts_after file run = unless_fault (rows_fit file (length run)) run (with_verdicts file (rows_in file) run)

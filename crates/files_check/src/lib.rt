@@ -8,29 +8,22 @@ ghost use Rattle.files_check.specs.RowsFile.{
   fields_at,
   verdict_of,
   verdict_at,
-  judged_by,
   judged_of,
   with_verdicts,
-  verdicts_by,
   verdicts_after,
 };
 
-use files_checks::{Check, check_filled};
+use bits::Refusal;
+use files_checks::{Fault, check_filled, need};
 use files_formats::rows::{
     CHECKED_ANOMALY, CHECKED_COUNT_PLACE, CHECKED_FIGURE, CHECKED_FIGURES, CHECKED_WIDTH,
     GIVEN_WORDS, MOST_CHECKED,
 };
 use files_words::word_at;
 
-// What a file of rows is answered with: a refusal's number or 0, and the place of the refusal or the rows.
-#[derive(Clone, Copy)]
-pub struct Judged {
-    pub number: u64,
-    pub place_or_rows: usize,
-}
-
 // The count, that many whole rows, and nothing behind them.
-fn check_rows(file: &[u8]) -> Check
+#[tactic(auto, unfolding(crate::specs::RowsFile::rows_check))]
+fn check_rows(file: &[u8]) -> Result<(), Fault>
     ensures { result ≡ rows_check file.now }
 {
     check_filled(
@@ -46,23 +39,17 @@ fn read_fields(file: &[u8], place: usize, words: &mut [u64])
     requires { (place < checked_place (suc most_checked)) × (length words.old ≤ checked_width) }
     ensures { words.new ≡ fields_at file.now place (length words.old) }
 {
-    let n = words.len();
-    let mut rest = n;
-    while 0 < rest {
-        let j = n - rest;
+    for j in 0..words.len() {
         words[j] = word_at(file, place + 8 * j);
-        rest -= 1;
     }
 }
 
 // The verdict on a row: 1 accepted, 0 not.
+#[tactic(auto, unfolding(crate::specs::RowsFile::verdict_of))]
 fn verdict_of(given: [u64; 8], anomaly: u64, nine: [u64; 9]) -> u64
     ensures { result ≡ verdict_of given anomaly nine }
 {
-    if states_check::accepts(given, anomaly, nine) {
-        return 1;
-    }
-    0
+    u64::from(states_check::accepts(given, anomaly, nine))
 }
 
 // The verdict on row k.
@@ -83,43 +70,19 @@ fn put_verdicts(file: &[u8], rows: usize, verdicts: &mut [u64])
     requires { (rows ≤ most_checked) × (rows ≤ length verdicts.old) }
     ensures { verdicts.new ≡ with_verdicts file.now rows verdicts.old }
 {
-    let mut left = rows;
-    while 0 < left {
-        let k = rows - left;
+    for k in 0..rows {
         verdicts[k] = verdict_at(file, k);
-        left -= 1;
     }
 }
 
-// The rows of a sound file: 26 where the run is too short for their verdicts, else the verdicts.
-fn judge_rows(file: &[u8], rows: usize, verdicts: &mut [u64]) -> Judged
-    requires { rows ≤ most_checked }
-    ensures judged { result ≡ judged_by Check.Sound rows (length verdicts.old) }
-    ensures verdicts { verdicts.new ≡ verdicts_by Check.Sound file.now rows verdicts.old }
-{
-    if verdicts.len() < rows {
-        return Judged {
-            number: 26,
-            place_or_rows: rows,
-        };
-    }
-    put_verdicts(file, rows, verdicts);
-    Judged {
-        number: 0,
-        place_or_rows: rows,
-    }
-}
-
-// A verdict for each row of a file, to a lent run; a refused file, or a run too short, changes nothing there.
-pub fn judge(file: &[u8], verdicts: &mut [u64]) -> Judged
+// A verdict for each row of a file, to a lent run, and how many rows there are; a refused file, or a run too short, changes nothing there.
+pub fn judge(file: &[u8], verdicts: &mut [u64]) -> Result<usize, Fault>
     ensures judged { result ≡ judged_of file.now (length verdicts.old) }
     ensures verdicts { verdicts.new ≡ verdicts_after file.now verdicts.old }
 {
-    match check_rows(file) {
-        Check::Sound => judge_rows(file, word_at(file, CHECKED_COUNT_PLACE) as usize, verdicts),
-        Check::Fault { number, place } => Judged {
-            number,
-            place_or_rows: place,
-        },
-    }
+    check_rows(file)?;
+    let rows = word_at(file, CHECKED_COUNT_PLACE) as usize;
+    need(rows <= verdicts.len(), Refusal::RoomTooShort, rows)?;
+    put_verdicts(file, rows, verdicts);
+    Ok(rows)
 }

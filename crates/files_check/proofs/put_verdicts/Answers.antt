@@ -1,26 +1,12 @@
-use Prim.Native.Nat.{ℕ, ◌-◌}
-use mathlib.Core.Path.{◌≡◌, refl, ap, ◌∙◌}
-use native.Mathlib.Omega.{arith}
-use lib.ListN.{length-set}
-use Rattle.files_check.specs.RowsFile.{verdict_at, with_verdicts}
+use Rattle.std.proofs.Common.{arith}
+use Rattle.files_check.specs.RowsFile.{verdict_at}
 use Rattle.files_check.proofs.EachLaws.{start, next}
 use Rattle.files_check.proofs.put_verdicts.Goals as goal
 
-pub loop-left-init : goal.loop-left-init
-loop-left-init c = let a = c.args in (omega arith, refl, start (verdict_at a.file.now) a.verdicts.now a.rows)
+pub loop-k-init : goal.loop-k-init
+loop-k-init c = start (verdict_at c.args.file.now) c.args.verdicts.now
 
-pub loop-left-preserved : goal.loop-left-preserved
-loop-left-preserved c =
-    let l = c.loop-left in
-    let a = c.args in (
-      omega arith,
-      simp length-set l.invariant.1,
-      next (verdict_at a.file.now) a.verdicts.now a.rows l.left c.loop-left-test.true l.invariant.0 c.requires.1 l.invariant.2 c.verdict_at.ensures,
-    )
-
-pub returns : goal.returns
-returns c =
+pub loop-k-preserved : goal.loop-k-preserved
+loop-k-preserved c =
     let a = c.args in
-    let l = c.loop-left in
-    let e : a.rows - l.left ≡ a.rows = omega arith in
-    l.invariant.2 ∙ ap (λ (k : ℕ). with_verdicts a.file.now k a.verdicts.now) e
+    next (verdict_at a.file.now) a.verdicts.now c.loop-k.k (omega (arith, c.requires.1, c.loop-k-test.true)) c.loop-k.invariant c.verdict_at.ensures

@@ -1,27 +1,21 @@
-use Prim.Native.Nat.{◌-◌}
+use Rattle.std.specs.Prelude.{◌≡◌, length}
+use Rattle.std.proofs.Common.{arith}
 use mathlib.Core.List.{append-nil}
-use mathlib.Core.Path.{◌≡◌, refl}
-use native.Mathlib.Omega.{arith}
-use lib.ListN.{length, length-set, drop_of_length-le}
+use lib.ListN.{drop_of_length-le}
 use Rattle.files_check.specs.RowsFile.{fields_at}
 use Rattle.files_check.proofs.EachLaws.{start, next}
 use Rattle.files_check.proofs.read_fields.Invariants.{from}
 use Rattle.files_check.proofs.read_fields.Goals as goal
 
-pub loop-rest-init : goal.loop-rest-init
-loop-rest-init c = (omega arith, refl, start _ _ _)
+pub loop-j-init : goal.loop-j-init
+loop-j-init c = start _ _
 
-pub loop-rest-preserved : goal.loop-rest-preserved
-loop-rest-preserved c =
-    let l = c.loop-rest in
-    let a = c.args in
-    let n = next (from a.file.now a.place) a.words.now _ l.rest c.loop-rest-test.true l.invariant.0 (omega arith) l.invariant.2 c.word_at.ensures in
-    (omega arith, simp length-set l.invariant.1, n)
+pub loop-j-preserved : goal.loop-j-preserved
+loop-j-preserved c = next (from c.args.file.now c.args.place) c.args.words.now c.loop-j.j (omega arith) c.loop-j.invariant c.word_at.ensures
 
 pub returns : goal.returns
 returns c =
     let a = c.args in
-    let l = c.loop-rest in
     let n = length a.words.now in
-    let e : n - l.rest ≡ n = omega arith in
-    rw (l.invariant.2, e, drop_of_length-le a.words.now {i = n} (omega arith), append-nil (fields_at a.file.now a.place n))
+    let e : c.loop-j.j ≡ n = omega arith in
+    rw (c.loop-j.invariant, e, drop_of_length-le a.words.now {i = n} (omega arith), append-nil (fields_at a.file.now a.place n))
