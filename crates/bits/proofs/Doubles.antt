@@ -7,24 +7,17 @@ use native.Mathlib.Decide.{dec_le, dec_lt}
 use native.Mathlib.Omega.{arith}
 use borrow.Author.Tests.{le-ltb, lt-leb, le-leb, leb-true, ne_eqb, eq-eqb}
 use lib.Dec.{T, leb, eqb}
-use lib.Ieee.{Float, nan, inf, fin, binary64, eq, ne, is_nan, nan_bits, of_bits, of_fields, odd, up, down}
+use lib.Ieee.{Float, nan, inf, fin, binary64, eq, is_nan, nan_bits, of_bits, of_fields, odd, up, down}
 use lib.Ieee.Bits.{nan_bits_above, is_true}
 use lib.Ieee.Exact.{HasValue, odd_sign}
 use lib.Ieee.Scale.{finite}
 use lib.Ieee.Positive.{positive, den_pos, positive-finite, positive_of_value}
-use lib.Ieee.Compare.{nan_differs}
 use lib.Pow.{pow_pos}
 use Rattle.bits.specs.Arithmetic.{n0}
 use Rattle.bits.specs.Words.{field_of, units, scaled, infinity}
 use Rattle.bits.proofs.Units.{grows, small}
 
--- What `f64::to_bits` and `f64::from_bits` ask.
-pub no_nan : (x : Float) → ne x x ≡ false → T (not (is_nan x))
-unfolding is_nan
-no_nan nan h = absurd (true≢false (sym nan_differs ∙ h))
-no_nan (inf s) h = tt
-no_nan (fin s m e) h = tt
-
+-- The NaN, and what `f64::from_bits` asks.
 pub only_nan : (x : Float) → is_nan x ≡ true → x ≡ nan
 unfolding is_nan
 only_nan nan e = refl

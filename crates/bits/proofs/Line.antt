@@ -5,6 +5,7 @@ use Prim.Native.Nat.{ℕ, ◌+◌, ◌-◌, ◌*◌, ◌%◌, ◌^◌, ◌≤◌
 use native.Mathlib.Nat.{le_of_eq, mul-le-mul_right, le_of_mul-le-mul_right}
 use native.Mathlib.Decide.{dec_le, dec_lt}
 use native.Mathlib.Omega.{arith}
+use Rattle.std.proofs.Math.Bool.{and-true, and-false}
 use borrow.Author.Tests.{lt-ltb, le-ltb, ltb-false, lt-leb, le-leb, eq-eqb, ne_eqb}
 use lib.Dec.{ltb, leb, eqb}
 use lib.Ieee.{Float, is_nan, nan, inf, fin, binary64, lt, eq, below, level, up, down, of_bits, of_fields}
@@ -229,25 +230,17 @@ neither a b = elim (dec_lt a b) [
 neither_zero : (a b : ℕ) → (eqb a b && eqb a 0 ≡ not (ltb 0 (b + a))) × (eqb a b && eqb a 0 ≡ not (ltb 0 (a + b)) && true)
 neither_zero a b = elim (dec_lt 0 (a + b)) [
   | yes l ↦ rw (lt-ltb 0 (a + b) l, lt-ltb 0 (b + a) (omega arith)) (elim (dec_lt 0 a) [
-    | yes k ↦ rw (ne_eqb a 0 (λ e. omega arith)) (and_false (eqb a b), and_false (eqb a b))
+    | yes k ↦ rw (ne_eqb a 0 (λ e. omega arith)) (and-false (eqb a b), and-false (eqb a b))
     | no k ↦ rw (ne_eqb a b (λ e. omega arith)) (refl, refl)
   ])
   | no g ↦ rw (le-ltb 0 (a + b) (omega arith), le-ltb 0 (b + a) (omega arith), eq-eqb a b (omega arith), eq-eqb a 0 (omega arith)) (refl, refl)
 ]
-  where
-    and_false : (r : Bool) → r && false ≡ false
-    and_false true = refl
-    and_false false = refl
-
-and_true : (r : Bool) → r && true ≡ r
-and_true true = refl
-and_true false = refl
 
 level_neither : (s t : Bool) (a b : ℕ) → level s a t b ≡ not (below s a t b) && not (below t b s a)
-level_neither false false a b = and_true (eqb a b) ∙ (neither a b).0
+level_neither false false a b = and-true (eqb a b) ∙ (neither a b).0
 level_neither false true a b = (neither_zero a b).0
 level_neither true false a b = (neither_zero a b).1
-level_neither true true a b = and_true (eqb a b) ∙ (neither a b).1
+level_neither true true a b = and-true (eqb a b) ∙ (neither a b).1
 
 pub eq_neither : (x y : Float) → is_nan x ≡ false → is_nan y ≡ false → eq x y ≡ not (lt x y) && not (lt y x)
 unfolding eq lt is_nan

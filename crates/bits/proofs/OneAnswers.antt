@@ -4,6 +4,8 @@ use Rattle.bits.specs.OneAnswer.{OneAnswer}
 use Rattle.bits.specs.Arithmetic.{n0}
 use Rattle.bits.proofs.RefusalLaws.{one_result}
 use Rattle.bits.proofs.Computed.{answered}
+use Rattle.bits.proofs.refusal.U64FromRefusal.from.Kinds as from-kinds
+use Rattle.bits.proofs.refusal.U64FromRefusal.from.Reads as from-reads
 use Rattle.bits.proofs.words.kind_of.Kinds as kind-of-kinds
 use Rattle.bits.proofs.words.kind_of.Reads as kind-of-reads
 use Rattle.bits.proofs.words.is_finite_word.Kinds as is-finite-word-kinds
@@ -36,6 +38,9 @@ use Rattle.bits.proofs.root.root_of.Kinds as root-of-kinds
 use Rattle.bits.proofs.root.root_of.Reads as root-of-reads
 use Rattle.bits.proofs.root.root_of_figure.Kinds as root-of-figure-kinds
 use Rattle.bits.proofs.root.root_of_figure.Reads as root-of-figure-reads
+
+pub from_one : OneAnswer 0 from-kinds.ps from-kinds.r from-reads.Post
+from_one κs a x y v w p q = (p ∙ sym q, refl)
 
 pub kind_of_one : OneAnswer 0 kind-of-kinds.ps kind-of-kinds.r kind-of-reads.Post
 kind_of_one κs a x y v w p q = (p ∙ sym q, refl)
