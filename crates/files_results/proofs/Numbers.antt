@@ -8,12 +8,14 @@ use borrow.Author.Tests.{ltb-true}
 use lib.Dec.{ltb}
 use lib.ListN.{length, get_or, take}
 use lib.Seq.{length-take-le}
+use Rattle.std.specs.Prelude.{Some, None}
 use Rattle.bits.specs.Choice.{pick}
+use Rattle.bits.specs.declared.refusal.Refusal.TheVariants.{NoSuchRecord}
 use Rattle.files_words.specs.Bytes.{word_at, words_from}
 use Rattle.files_words.proofs.WordLaws.{word_of_words}
 use Rattle.files_records.specs.Records.{same_column}
 use Rattle.files_records.proofs.Steps.{stands_within, column_of_lem}
-use Rattle.files_checks.specs.declared.Check.TheVariants.{Sound}
+use Rattle.files_checks.specs.Checks.{sound}
 use Rattle.files_checks.proofs.WalkLaws.{sound_walk}
 use Rattle.files_checks.proofs.CountedLaws.{words_sound, words_there_lem}
 use Rattle.files_formats.specs.declared.kinds.Kind.{Kind}
@@ -31,12 +33,12 @@ use Rattle.files_reader.proofs.Accepted.{count_in, section_sound, accepted_sound
 use Rattle.files_results.specs.Requests.{Accepted, field, request_place, state_place}
 
 -- A number without a fault is below the bound.
-no_fault : (b : Bool) → ◌≡◌ {A = ℕ} (pick b 0 24) 0 → b ≡ true
+no_fault : (b : Bool) → pick b None (Some NoSuchRecord) ≡ None → b ≡ true
 no_fault true e = refl
-no_fault false e = absurd (omega (arith, e))
+no_fault false e = cc
 
 -- A word of a kind's column of a section that is sound.
-module _ (file : List ℕ) (shape : Shape) (section : Section) (sound : section_check file shape section ≡ Sound) where
+module _ (file : List ℕ) (shape : Shape) (section : Section) (passed : section_check file shape section ≡ sound) where
   abbrev kinds : List Kind
   kinds = kinds_of shape.edition section
 
@@ -52,13 +54,13 @@ module _ (file : List ℕ) (shape : Shape) (section : Section) (sound : section_
   number_below count i j same h k kind =
       let at = i * width + j in
       let below = below_of shape section in
-      let walked = words_sound file (place_of shape section) (limit_of section) width (ruling_of kinds below) sound in
-      let there = words_there_lem file (place_of shape section) (limit_of section) width (ruling_of kinds below) sound in
+      let walked = words_sound file (place_of shape section) (limit_of section) width (ruling_of kinds below) passed in
+      let there = words_there_lem file (place_of shape section) (limit_of section) width (ruling_of kinds below) passed in
       let within : at < word_at file (place_of shape section) * width = omega (arith, stands_within width i count j h k, ap (λ (n : ℕ). n * width) same) in
       let quiet = sound_walk (ruling_of kinds below) (place_of shape section + 8) [] _ words walked at within in
       let column : length (take at words) % width ≡ j = ap (λ (n : ℕ). n % width) (length-take-le at words (omega (arith, within, there))) ∙ column_of_lem width i j k in
       let word = get_or words at 0 in
-      let fault : fault_of Number below (same_column width (take at words)) word ≡ 0 =
+      let fault : fault_of Number below (same_column width (take at words)) word ≡ None =
       ap (λ (x : Kind). fault_of x below (same_column width (take at words)) word) (sym (ap (kind_at kinds) column ∙ kind)) ∙ quiet
       in
       let place : place_of shape section + 8 + 8 * at ≡ record_of shape section i + 8 * j = omega arith in
@@ -67,10 +69,10 @@ module _ (file : List ℕ) (shape : Shape) (section : Section) (sound : section_
 
 -- ---- An accepted file.
 module _ (file : List ℕ) (shape : Shape) (accepted : Accepted file shape) where
-  of_section : (section : Section) → (section_check file shape section ≡ Sound) × (count_of shape section ≡ word_at file (place_of shape section))
+  of_section : (section : Section) → (section_check file shape section ≡ sound) × (count_of shape section ≡ word_at file (place_of shape section))
   of_section section =
       let a = accepted_sound file shape accepted in
-      subst (λ (x : Shape). (section_check file x section ≡ Sound) × (count_of x section ≡ word_at file (place_of x section))) a.1
+      subst (λ (x : Shape). (section_check file x section ≡ sound) × (count_of x section ≡ word_at file (place_of x section))) a.1
       (section_sound file a.0 section, count_in (edition_in file) file section)
 
   named_below : (column : Column) (i : ℕ) → IsNumber shape.edition column → i < count_of shape (section_of column) →

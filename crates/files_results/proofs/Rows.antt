@@ -1,26 +1,32 @@
 -- A result file is its rows, one after another.
-use mathlib.Core.Bool.{Bool, true, false}
+use mathlib.Core.Bool.{false}
 use mathlib.Core.Path.{◌≡◌, refl, sym, ap, ◌∙◌}
 use mathlib.Core.List.{List, [], ◌∷◌}
-use Prim.Native.Nat.{ℕ, zero, suc, ◌*◌, ◌<◌, ◌≤◌}
+use Prim.Native.Nat.{ℕ, zero, suc, ◌*◌, ◌≤◌}
 use native.Mathlib.Omega.{arith}
-use borrow.Author.Tests.{le-leb, lt-leb}
+use borrow.Author.Tests.{leb-true, leb-false}
 use lib.Dec.{leb}
 use lib.Ieee.{of_bits, to_bits}
 use lib.ListN.{length, length-append, take, get_or}
 use Rattle.states_start.specs.Given.{figure_refusal}
+use Rattle.states_start.proofs.StartLaws.{figure_number}
 use Rattle.states_arcs.specs.Results.{figures_of}
-use Rattle.states.specs.Call.{refused, answer_words, propagate_of}
-use Rattle.states.specs.declared.figures.Answer.{Answer}
+use Rattle.states.specs.Call.{Answering, refused, refusal_of, answer_words, propagate_of}
 use Rattle.states.proofs.NamedFigures.{names_figure}
-use Rattle.bits.specs.Choice.{pick}
+use Rattle.std.specs.Prelude.{Ok, Err}
+use Rattle.bits.specs.declared.refusal.Refusal.{Refusal}
+use Rattle.bits.specs.declared.refusal.Refusal.TheVariants.{RoomTooShort}
+use Rattle.bits.specs.Refusal.{number_of}
+use Rattle.files_checks.specs.declared.Fault.{Fault}
+use Rattle.files_checks.specs.Checks.{Check, sound, need, ◌⟫◌}
+use Rattle.files_checks.proofs.CheckLaws.{needed, needed_not}
 use Rattle.files_words.specs.Bytes.{as_bytes, put}
 use Rattle.files_words.proofs.WordLaws.{length-as_bytes, as_bytes_append}
 use Rattle.files_words.proofs.PutLaws.{put_next, put_outside, length-put}
 use Rattle.files_formats.specs.declared.shapes.Shape.{Shape}
 use Rattle.files_results.specs.Requests.{request_words}
 use Rattle.files_formats.specs.Rows.{result_edition, result_width, result_place}
-use Rattle.files_results.specs.Results.{row_of, refused_row, RowsName, rows_of, sections_words, short_room, outcome_in, with_row, with_rows}
+use Rattle.files_results.specs.Results.{row_of, refused_row, RowsName, rows_of, sections_words, outcome_in, with_row, with_rows}
 
 -- ---- Rows.
 pub row_length : (words : List ℕ) → length (row_of words) ≡ result_width
@@ -35,20 +41,20 @@ rows_length file shape (suc n) =
     ∙ (omega (arith, rows_length file shape n, row_length (request_words file shape n)))
 
 -- T-05: a row is of the call's answer, and its first word the call's refusal.
-row_from : Answer → List ℕ
+row_from : Answering → List ℕ
 row_from a = take result_width (answer_words a)
 
 of_answer : (words : List ℕ) → row_of words ≡ row_from (propagate_of words)
 unfolding row_of row_from
 of_answer words = refl
 
-first_word : (words : List ℕ) → get_or (row_of words) 0 0 ≡ (propagate_of words).refusal
+first_word : (words : List ℕ) → get_or (row_of words) 0 0 ≡ refusal_of (propagate_of words)
 unfolding row_of answer_words figures_of
 first_word words = refl
 
-of_refusal : (n : ℕ) → row_from (refused n 0) ≡ refused_row n
-unfolding row_from answer_words figures_of refused to_bits of_bits
-of_refusal n = refl
+of_refusal : (r : Refusal) → row_from (refused r 0) ≡ refused_row (number_of r)
+unfolding row_from answer_words figures_of to_bits of_bits
+of_refusal r = refl
 
 eight : (file : List ℕ) (shape : Shape) (k : ℕ) → length (request_words file shape k) ≡ 8
 unfolding request_words
@@ -59,7 +65,7 @@ rows_name file shape k figure =
     let words = request_words file shape k in
     let names = (names_figure _ _ words (eight file shape k)).0 in (
       λ f. of_answer words ∙ ap row_from (names.named figure f) ∙ of_refusal (figure_refusal figure),
-      λ l e. names.told figure l (sym (first_word words) ∙ e),
+      λ l e. names.told figure l (sym (first_word words) ∙ e ∙ figure_number figure l),
     )
 
 module _ (file : List ℕ) (shape : Shape) where
@@ -91,18 +97,17 @@ module _ (file : List ℕ) (shape : Shape) where
   pub room_length : (room : List ℕ) (k : ℕ) → result_place k ≤ length room → length (with_rows file shape k room) ≡ length room
   room_length room k h = length-put room (as_bytes (rows_of file shape k)) (result_place 0) (omega (arith, rows_bytes k))
 
--- ---- What is answered.
-module _ (result room : List ℕ) where
-  answered : {n : ℕ} (b : Bool) → length result ≡ n → leb (length result) (length room) ≡ b → record { number = pick b 0 short_room; size = n } ≡ outcome_in result room
+-- ---- What is answered, by what was found of the room.
+module _ (result room : List ℕ) {n : ℕ} (size : length result ≡ n) where
+  by_room : {c : Check} → need (leb n (length room)) RoomTooShort n ≡ c → (c ⟫ Ok n) ≡ outcome_in result room
   unfolding outcome_in
-  answered b e t = λ i. record { number = pick (sym t i) 0 short_room; size = sym e i }
+  by_room e = λ i. (sym e ∙ (λ j. need (leb (sym size j) (length room)) RoomTooShort (sym size j))) i ⟫ Ok (sym size i)
 
-  pub too_short : {n : ℕ} → length result ≡ n → length room < n → (record { number = short_room; size = n } ≡ outcome_in result room) × (room ≡ put room 0 result)
-  too_short {n} e h =
-      let l : length room < length result = omega arith in
-      (answered false e (lt-leb (length result) (length room) l), sym (put_outside room result 0 (omega arith)))
+  pub too_short : {f : Fault} → need (leb n (length room)) RoomTooShort n ≡ Err f → (Err f ≡ outcome_in result room) × (room ≡ put room 0 result)
+  too_short e =
+      let h : leb n (length room) ≡ false = (needed_not _ _ _ e).0 in
+      let l = leb-false n (length room) h in
+      (by_room e, sym (put_outside room result 0 (omega (arith, l))))
 
-  pub long_enough : {n : ℕ} → length result ≡ n → n ≤ length room → record { number = 0; size = n } ≡ outcome_in result room
-  long_enough {n} e h =
-      let l : length result ≤ length room = omega arith in
-      answered true e (le-leb (length result) (length room) l)
+  pub long_enough : need (leb n (length room)) RoomTooShort n ≡ sound → (Ok n ≡ outcome_in result room) × (n ≤ length room)
+  long_enough e = (by_room e, leb-true n (length room) (needed _ RoomTooShort n e))

@@ -1,15 +1,22 @@
 -- Result files and the room that is lent for them, computed: 0 and the file's bytes, or 26 and the bytes that are needed, and then the room is as it was.
-use Rattle.std.specs.Prelude.{◌≡◌, refl, List, [], ◌∷◌, ◌++◌, ℕ, replicate}
+use Rattle.std.specs.Prelude.{◌≡◌, refl, Result, Ok, Err, List, [], ◌∷◌, ◌++◌, ℕ, replicate}
 use Rattle.states_arcs.specs.Results.{figures_of}
 use Rattle.states.specs.Call.{answer_words}
+use Rattle.bits.specs.Refusal.{number_of}
 use Rattle.files_words.specs.Bytes.{as_bytes, put}
+use Rattle.files_checks.specs.declared.Fault.{Fault}
 use Rattle.files_reader.specs.Cases.{p10_file}
 use Rattle.files_reader.specs.Reader.{reading_of}
 use Rattle.files_results.specs.Results.{longest_result, row_of, rows_of, result_file, outcome_in, outcome_of}
 
+-- An answer as two words.
+abbrev as_words : Result ℕ Fault → List ℕ
+as_words (Ok size) = 0 ∷ size ∷ []
+as_words (Err fault) = number_of fault.refusal ∷ fault.place ∷ []
+
 -- An element file and a room of so many bytes, each 7: what is answered, a number and a size.
 abbrev Answers : (file : List ℕ) (room number size : ℕ) → Type 0
-Answers file room number size = outcome_of file (replicate room 7) ≡ record { number = number; size = size }
+Answers file room number size = as_words (outcome_of file (replicate room 7)) ≡ number ∷ size ∷ []
 
 -- And what the room holds afterwards.
 abbrev Leaves : (file : List ℕ) (room : ℕ) (after : List ℕ) → Type 0

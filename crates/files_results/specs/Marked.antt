@@ -18,8 +18,6 @@ use Rattle.states_arcs.specs.Results.{factors_of, end_state_of, arc_of, accelera
 use Rattle.states_start.specs.Given.{read_of}
 use Rattle.states_start.specs.Initial.{dot, begun_of, first_step_of}
 use Rattle.states.specs.Call.{
-  refused,
-  answered,
   reached_found,
   reached_over_by,
   reached_from_by,
@@ -191,7 +189,7 @@ table =
 pub marked : map (λ (c : Case). given c.asked) table ≡ map (λ (c : Case). c.must) table
 unfolding
     result_file reading_of rows_of row_of request_words propagate_by answer_words reached_words_by reached_orbit_by reached_from_by reached_over_by
-    reached_found interval_of without_revolutions without_n as_it_is floor_of course_of is_closed is_usable revolution_of of_int ended_answer answered refused
+    reached_found interval_of without_revolutions without_n as_it_is floor_of course_of is_closed is_usable revolution_of of_int ended_answer
     read_of begun_of dot first_step_of ended_of figures_of results_of acceleration_of arc_of end_state_of factors_of has first_of search_choosing history
     inward round halving outward onward counted trial_at evaluated_at sort_of anomaly_at time_error_of radius_of coefficients_of sums_of quotients_of
     doublings at_reduced c4_of c5_of nested reduced_from beyond_one root_of root_word_of as_bytes add sub mul div neg lt eq ne of_bits to_bits

@@ -1,5 +1,5 @@
 -- Document 01: "states (.. centre number, epoch, x y z vx vy vz); requests (.. state number, time)", "τ is time − epoch".
-use Rattle.std.specs.Prelude.{◌≡◌, List, [], ◌∷◌, ℕ, ◌+◌, ◌*◌}
+use Rattle.std.specs.Prelude.{◌≡◌, Ok, List, [], ◌∷◌, ℕ, ◌+◌, ◌*◌}
 use Rattle.std.specs.Float.{binary64}
 use Rattle.std.specs.Float.Ieee.{of_bits, to_bits}
 use Rattle.bits.specs.Arithmetic.{◌⊖◌}
@@ -11,11 +11,10 @@ use Rattle.files_formats.specs.declared.shapes.Shape.{Shape}
 use Rattle.files_formats.specs.Elements.{column_of}
 use Rattle.files_formats.specs.Shapes.{record_of}
 use Rattle.files_reader.specs.Reader.{reading_of}
-use Rattle.files_reader.specs.declared.Reading.TheVariants as reading
 
 -- A file that is accepted with this shape.
 abbrev pub Accepted : List ℕ → Shape → Type 0
-Accepted file shape = reading_of file ≡ reading.Sections shape
+Accepted file shape = reading_of file ≡ Ok shape
 
 -- ---- "τ is time − epoch", rounded once, as a word. Where the time or the epoch isn't finite, neither is τ (`not_finite_difference`), and the row is refused.
 abbrev pub tau_of : (time epoch : ℕ) → ℕ

@@ -1,17 +1,17 @@
 -- Document 01: "The program writes edition 1, the request count, then per request 11 words: refusal or 0, points, position, velocity, end acceleration. A
 -- refused file gives three words: 1, 0, its number."
-use Rattle.std.specs.Prelude.{◌≡◌, refl, List, [], ◌∷◌, ◌++◌, ℕ, zero, suc, ◌<◌, leb, length, take, get_or}
-use Rattle.bits.specs.Choice.{pick}
+use Rattle.std.specs.Prelude.{◌≡◌, refl, Result, Ok, Err, List, [], ◌∷◌, ◌++◌, ℕ, zero, suc, ◌<◌, leb, length, take, get_or}
+use Rattle.bits.specs.declared.refusal.Refusal.TheVariants.{RoomTooShort}
+use Rattle.bits.specs.Refusal.{number_of}
 use Rattle.states_start.specs.Given.{figure_refusal, FirstBad}
 use Rattle.states.specs.Call.{answer_words, propagate_of}
 use Rattle.files_words.specs.Bytes.{as_bytes, put}
+use Rattle.files_checks.specs.declared.Fault.{Fault}
+use Rattle.files_checks.specs.Checks.{need, ◌⟫◌}
 use Rattle.files_formats.specs.declared.shapes.Shape.{Shape}
 use Rattle.files_formats.specs.Rows.{result_edition, result_width, most_results, result_place, refused_words}
 use Rattle.files_reader.specs.Reader.{reading_of}
-use Rattle.files_reader.specs.declared.Reading.{Reading}
-use Rattle.files_reader.specs.declared.Reading.TheVariants as reading
 use Rattle.files_results.specs.Requests.{request_words}
-use Rattle.files_results.specs.declared.Outcome.{Outcome}
 
 -- ---- How long a result file can be, by the most requests that an element file can have.
 abbrev pub longest_result : ℕ
@@ -31,8 +31,8 @@ abbrev pub RowsName : Type 0
 RowsName =
     (file : List ℕ) (shape : Shape) (k figure : ℕ) →
     let words = request_words file shape k in
-    (FirstBad words figure → row_of words ≡ refused_row (figure_refusal figure))
-    × (figure < 8 → get_or (row_of words) 0 0 ≡ figure_refusal figure → FirstBad words figure)
+    (FirstBad words figure → row_of words ≡ refused_row (number_of (figure_refusal figure)))
+    × (figure < 8 → get_or (row_of words) 0 0 ≡ number_of (figure_refusal figure) → FirstBad words figure)
 
 -- The rows of the first n requests.
 unfoldable pub rows_of : List ℕ → Shape → (n : ℕ) → List ℕ
@@ -49,21 +49,18 @@ refused_file number = result_edition ∷ 0 ∷ number ∷ []
 refused_size : (number : ℕ) → length (refused_file number) ≡ refused_words
 refused_size number = refl
 
-abbrev pub result_by : List ℕ → Reading → List ℕ
-result_by file (reading.Sections shape) = sections_words file shape
-result_by file (reading.Refused number place) = refused_file number
+abbrev pub result_by : List ℕ → Result Shape Fault → List ℕ
+result_by file (Ok shape) = sections_words file shape
+result_by file (Err fault) = refused_file (number_of fault.refusal)
 
 unfoldable pub result_file : List ℕ → List ℕ
 result_file file = as_bytes (result_by file (reading_of file))
 
--- ---- What is answered: 0 and the file's size in bytes, or 26 and the size needed.
-abbrev pub short_room : ℕ
-short_room = 26
+-- ---- What is answered: the file's size in bytes, or 26 with the size needed for its place.
+unfoldable pub outcome_in : (result room : List ℕ) → Result ℕ Fault
+outcome_in result room = need (leb (length result) (length room)) RoomTooShort (length result) ⟫ Ok (length result)
 
-unfoldable pub outcome_in : (result room : List ℕ) → Outcome
-outcome_in result room = record { number = pick (leb (length result) (length room)) 0 short_room; size = length result }
-
-abbrev pub outcome_of : List ℕ → (room : List ℕ) → Outcome
+abbrev pub outcome_of : List ℕ → (room : List ℕ) → Result ℕ Fault
 outcome_of file room = outcome_in (result_file file) room
 
 -- ---- What the code's inner steps leave in a room: row k at its place; the first n rows at theirs.

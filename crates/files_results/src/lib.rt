@@ -2,18 +2,20 @@
 #![tactic(auto)]
 
 ghost use Rattle.std.specs.Prelude.{◌≡◌, ◌<◌, ◌≤◌, length};
+ghost use Rattle.bits.specs.Refusal.{number_of};
 ghost use Rattle.files_words.specs.Bytes.{as_bytes, put};
 ghost use Rattle.files_formats.specs.Rows.{result_place};
-ghost use Rattle.files_results.specs.Requests.{Accepted};
 ghost use Rattle.files_results.specs.Results.{sections_words, refused_file, result_file, outcome_in, outcome_of, with_row, with_rows};
 
-use files_formats::Shape;
+use accepted::ElementFile;
+use bits::Refusal;
+use files_checks::{Fault, need};
 use files_formats::rows::{
     MOST_RESULTS, REFUSED_WORDS, RESULT_COUNT_PLACE, RESULT_EDITION, RESULT_WIDTH,
 };
-use files_reader::Reading;
 use files_words::put_words;
 
+mod accepted;
 mod requests;
 
 pub use requests::tau_of;
@@ -22,15 +24,6 @@ pub use requests::tau_of;
 pub const LONGEST_RESULT: usize = RESULT_COUNT_PLACE
     + 8
     + 8 * (MOST_RESULTS as usize * RESULT_WIDTH);
-// The number of a room that is too short.
-const SHORT_ROOM: u64 = 26;
-
-// What was written: 0 and the size of the result file in bytes, or 26 and the size that is needed.
-#[derive(Clone, Copy)]
-pub struct Outcome {
-    pub number: u64,
-    pub size: usize,
-}
 
 // Where row k stands, and how many bytes the rows before it and the head take.
 fn row_place(k: u16) -> usize
@@ -40,70 +33,56 @@ fn row_place(k: u16) -> usize
 }
 
 // The row of a request, put at its place.
-fn put_row(file: &[u8], shape: Shape, k: u16, room: &mut [u8])
-    requires { Accepted file.now shape × (k < shape.requests) }
-    ensures { room.new ≡ with_row file.now shape k room.old }
+fn put_row(file: ElementFile<'_>, k: u16, room: &mut [u8])
+    requires { k < file.shape.requests }
+    ensures { room.new ≡ with_row file.entry.bytes.now file.entry.shape k room.old }
 {
-    let answer = states::propagate(requests::request_words(file, shape, k));
+    let answer = states::propagate(requests::request_words(file, k));
     let words = states::words_of(answer);
     put_words(room, row_place(k), &words[..RESULT_WIDTH]);
 }
 
 // The rows of all requests, one after another.
-fn put_rows(file: &[u8], shape: Shape, room: &mut [u8])
-    requires { Accepted file.now shape × (result_place shape.requests ≤ length room.old) }
-    ensures { room.new ≡ with_rows file.now shape shape.requests room.old }
+fn put_rows(file: ElementFile<'_>, room: &mut [u8])
+    requires { result_place file.shape.requests ≤ length room.old }
+    ensures { room.new ≡ with_rows file.entry.bytes.now file.entry.shape file.entry.shape.requests room.old }
 {
-    let n = shape.requests;
-    let mut left = n;
-    while 0 < left {
-        put_row(file, shape, n - left, room);
-        left -= 1;
+    for k in 0..file.shape.requests {
+        put_row(file, k, room);
     }
 }
 
-// The result file of an accepted file.
-fn write_accepted(file: &[u8], shape: Shape, room: &mut [u8]) -> Outcome
-    requires { Accepted file.now shape }
-    ensures outcome { result ≡ outcome_in (as_bytes (sections_words file.now shape)) room.old }
-    ensures room { room.new ≡ put room.old 0 (as_bytes (sections_words file.now shape)) }
+// The result file of an accepted file, and its size in bytes.
+fn write_accepted(file: ElementFile<'_>, room: &mut [u8]) -> Result<usize, Fault>
+    ensures outcome { result ≡ outcome_in (as_bytes (sections_words file.entry.bytes.now file.entry.shape)) room.old }
+    ensures room { room.new ≡ put room.old 0 (as_bytes (sections_words file.entry.bytes.now file.entry.shape)) }
 {
-    let n = shape.requests;
+    let n = file.shape.requests;
     let size = row_place(n);
-    if room.len() < size {
-        return Outcome {
-            number: SHORT_ROOM,
-            size,
-        };
-    }
+    need(size <= room.len(), Refusal::RoomTooShort, size)?;
     put_words(room, 0, &[RESULT_EDITION, n as u64]);
-    put_rows(file, shape, room);
-    Outcome { number: 0, size }
+    put_rows(file, room);
+    Ok(size)
 }
 
-// The three words of a file that is refused.
-fn write_refused(number: u64, room: &mut [u8]) -> Outcome
-    ensures outcome { result ≡ outcome_in (as_bytes (refused_file number)) room.old }
-    ensures room { room.new ≡ put room.old 0 (as_bytes (refused_file number)) }
+// The three words of a file that is refused, and their size in bytes.
+fn write_refused(refusal: Refusal, room: &mut [u8]) -> Result<usize, Fault>
+    ensures outcome { result ≡ outcome_in (as_bytes (refused_file (number_of refusal))) room.old }
+    ensures room { room.new ≡ put room.old 0 (as_bytes (refused_file (number_of refusal))) }
 {
     let size = 8 * REFUSED_WORDS;
-    if room.len() < size {
-        return Outcome {
-            number: SHORT_ROOM,
-            size,
-        };
-    }
-    put_words(room, 0, &[RESULT_EDITION, 0, number]);
-    Outcome { number: 0, size }
+    need(size <= room.len(), Refusal::RoomTooShort, size)?;
+    put_words(room, 0, &[RESULT_EDITION, 0, u64::from(refusal)]);
+    Ok(size)
 }
 
-// The result file of an element file, to a room; where the room is too short, nothing is changed.
-pub fn write_results(file: &[u8], room: &mut [u8]) -> Outcome
+// The result file of an element file, to a room, and its size in bytes; where the room is too short, nothing is changed, and the place is the size needed.
+pub fn write_results(file: &[u8], room: &mut [u8]) -> Result<usize, Fault>
     ensures outcome { result ≡ outcome_of file.now room.old }
     ensures room { room.new ≡ put room.old 0 (result_file file.now) }
 {
     match files_reader::read_file(file) {
-        Reading::Sections(shape) => write_accepted(file, shape, room),
-        Reading::Refused { number, place: _ } => write_refused(number, room),
+        Ok(shape) => write_accepted(ElementFile { bytes: file, shape }, room),
+        Err(fault) => write_refused(fault.refusal, room),
     }
 }

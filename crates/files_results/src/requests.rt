@@ -1,9 +1,10 @@
 // Layer 5: from a request of an element file to its eight words.
 ghost use Rattle.std.specs.Prelude.{◌≡◌, ◌^◌, ◌<◌};
-ghost use Rattle.files_results.specs.Requests.{Accepted, tau_of, field, eight_words, request_words};
+ghost use Rattle.files_results.specs.Requests.{tau_of, field, eight_words, request_words};
 
+use crate::accepted::ElementFile;
 use bits::words::{double_of, word_of};
-use files_formats::{Column, Edition, Section, Shape, column_at};
+use files_formats::{Column, Edition, Section, column_at};
 use files_words::word_at;
 
 // The word of tau: time less epoch.
@@ -49,16 +50,17 @@ fn eight_words(
     ]
 }
 
-// The eight words of request k of a file of this shape.
-pub fn request_words(file: &[u8], shape: Shape, k: u16) -> [u64; 8]
-    requires { Accepted file.now shape × (k < shape.requests) }
-    ensures { result ≡ request_words file.now shape k }
+// The eight words of request k of an accepted file.
+pub fn request_words(file: ElementFile<'_>, k: u16) -> [u64; 8]
+    requires { k < file.shape.requests }
+    ensures { result ≡ request_words file.entry.bytes.now file.entry.shape k }
 {
+    let ElementFile { bytes, shape } = file;
     let edition = shape.edition;
     let request = shape.record(Section::Requests, k);
-    let s = field(file, request, column_at(edition, Column::State));
+    let s = field(bytes, request, column_at(edition, Column::State));
     let state = shape.record(Section::States, s as u16);
-    let c = field(file, state, column_at(edition, Column::Centre));
+    let c = field(bytes, state, column_at(edition, Column::Centre));
     let centre = shape.record(Section::Centres, c as u16);
-    eight_words(file, edition, request, state, centre)
+    eight_words(bytes, edition, request, state, centre)
 }
