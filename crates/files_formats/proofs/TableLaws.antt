@@ -1,23 +1,21 @@
 -- The words of a section by a table of kinds: what is told of a word whose kind is known, and that the first fault found column by column is the walk's.
-use Prim.Native.Nat.{ℕ, ◌+◌, ◌*◌, ◌%◌, ◌<◌, ◌≤◌}
+use Prim.Native.Nat.{min, ℕ, ◌+◌, ◌*◌, ◌%◌, ◌<◌, ◌≤◌}
 use native.Mathlib.Omega.{arith}
-use mathlib.Core.Path.{◌≡◌, refl, sym, ap, ◌∙◌}
+use mathlib.Core.Path.{◌≡◌, refl, sym, ap, ap₂, ◌∙◌}
 use native.Mathlib.Decide.{dec_lt}
 use mathlib.Core.Bool.{Bool, false}
 use mathlib.Core.List.{List, []}
 use borrow.Author.Tests.{le-leb, lt-leb}
-use lib.Dec.{leb, ltb}
+use lib.Dec.{leb}
 use lib.ListN.{length, get_or, take}
-use lib.Seq.{length-take-le}
+use lib.Seq.{length-take-le, take-take, get_or-take}
 use Rattle.std.specs.Prelude.{Option, None, Some}
 use Rattle.std.specs.Option.{option_or}
-use Rattle.bits.specs.Choice.{pick}
 use Rattle.files_records.specs.Records.{same_column}
 use Rattle.bits.specs.declared.refusal.Refusal.{Refusal}
 use Rattle.bits.specs.declared.refusal.Refusal.TheVariants.{WordMissing}
 use Rattle.files_checks.specs.Checks.{sound, fault, need, walk}
 use Rattle.files_checks.proofs.WalkLaws.{walk_quiet, walk_short, walk_stops}
-use Rattle.files_checks.proofs.CountedLaws.{not_all, all_there}
 use Rattle.files_formats.specs.declared.firsts.Found.{Found}
 use Rattle.files_formats.specs.declared.kinds.Kind.{Kind}
 use Rattle.files_formats.specs.declared.kinds.Kind.TheVariants.{Figure, Number}
@@ -69,20 +67,19 @@ module _ (kinds : List Kind) (below : ℕ) (ws : List ℕ) where
     unfolding table_fault
     none_found b e f = walk_quiet (ruling_of kinds below) place [] n ws (omega (arith, b, e)) (λ k l. f.quiet k (omega (arith, e)))
 
-    pub none_found_in_file : bound ≡ pick (ltb (length ws) n) (length ws) n → FirstOf (table_fault kinds below ws) bound None →
+    pub none_found_in_file : bound ≡ min n (length ws) → FirstOf (table_fault kinds below ws) bound None →
         need (leb n bound) WordMissing (place + 8 * bound) ≡ walk (ruling_of kinds below) place [] n ws
     unfolding table_fault
     none_found_in_file e f = elim (dec_lt bound n) [
       | yes l ↦
-          let short = not_all (length ws) n bound e l in
+          let short : bound ≡ length ws = omega (arith, e) in
           ap (λ (t : Bool). need t WordMissing (place + 8 * bound)) (lt-leb n bound l)
-          ∙ ap (λ (k : ℕ). fault WordMissing (place + 8 * k)) short.0
-          ∙ sym (walk_short (ruling_of kinds below) place [] n ws short.1 (λ k m. f.quiet k (omega (arith, short.0))))
+          ∙ ap (λ (k : ℕ). fault WordMissing (place + 8 * k)) short
+          ∙ sym (walk_short (ruling_of kinds below) place [] n ws (omega (arith, short)) (λ k m. f.quiet k (omega (arith, short))))
       | no g ↦
-          let all = all_there (length ws) n bound e (omega arith) in
           let up : n ≤ bound = omega arith in
           ap (λ (t : Bool). need t WordMissing (place + 8 * bound)) (le-leb n bound up)
-          ∙ sym (walk_quiet (ruling_of kinds below) place [] n ws all.1 (λ k l. f.quiet k (omega arith)))
+          ∙ sym (walk_quiet (ruling_of kinds below) place [] n ws (omega (arith, e)) (λ k l. f.quiet k (omega arith)))
     ]
 
     pub one_found : (first : Found) → bound ≤ n → bound ≤ length ws → FirstOf (table_fault kinds below ws) bound (Some first) →
@@ -91,3 +88,14 @@ module _ (kinds : List Kind) (below : ℕ) (ws : List ℕ) where
     one_found first few there f =
         let b = f.bad in
         sym (walk_stops (ruling_of kinds below) place [] n ws first.at (omega (arith, b.0)) (omega (arith, b.0)) (λ k l. f.quiet k l) b.1)
+
+  -- The first words alone have the same faults.
+  in_front : (n k : ℕ) → k < n → table_fault kinds below (take n ws) k ≡ table_fault kinds below ws k
+  unfolding table_fault
+  in_front n k h = ap₂ (ruling_of kinds below) (take-take k n ws (omega arith)) (get_or-take n ws k 0 h)
+
+  pub first_of_front : (n : ℕ) (found : Option Found) → FirstOf (table_fault kinds below (take n ws)) n found → FirstOf (table_fault kinds below ws) n found
+  first_of_front n None f = record { quiet = λ j h. sym (in_front n j h) ∙ f.quiet j h; bad = tt }
+  first_of_front n (Some first) f =
+      let b = f.bad in
+      record { quiet = λ j h. sym (in_front n j (omega (arith, b.0))) ∙ f.quiet j h; bad = (b.0, sym (in_front n first.at b.0) ∙ b.1) }

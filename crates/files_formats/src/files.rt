@@ -1,5 +1,5 @@
 // The check of a section of a file, by its table.
-ghost use Rattle.std.specs.Prelude.{◌≡◌, [], ◌+◌, ◌*◌, ◌^◌, ◌<◌};
+ghost use Rattle.std.specs.Prelude.{◌≡◌, [], ◌+◌, ◌*◌, ◌^◌, ◌<◌, ◌≤◌, length};
 ghost use Rattle.files_words.specs.Bytes.{words_from};
 ghost use Rattle.files_checks.specs.Checks.{walk};
 ghost use Rattle.files_formats.specs.Kinds.{ruling_of};
@@ -7,10 +7,10 @@ ghost use Rattle.files_formats.specs.Elements.{kinds_of};
 ghost use Rattle.files_formats.specs.Shapes.{below_of, section_check};
 
 use crate::elements::{Section, limit, width};
-use crate::firsts::{FileWords, first_fault};
+use crate::firsts::first_fault;
 use crate::shapes::Shape;
 use bits::Refusal;
-use files_checks::{Fault, check_count, need, words_there};
+use files_checks::{Fault, check_count, need};
 use files_words::word_at;
 
 // The walk over so many words from a place on, by the table of their section.
@@ -21,16 +21,21 @@ fn walk_words(
     place: usize,
     words: usize,
 ) -> Result<(), Fault>
-    requires { place + 8 * words < 2 ^ 64 }
+    requires { (place ≤ length file.now) × (place + 8 * words < 2 ^ 64) }
     ensures { result ≡ walk (ruling_of (kinds_of shape.edition section) (below_of shape section)) place [] words (words_from file.now place) }
 {
-    let there = words_there(file, place, words);
-    match first_fault(FileWords { file, place }, shape, section, there) {
+    let (whole, _) = file[place..].as_chunks::<8>();
+    let there = &whole[..words.min(whole.len())];
+    match first_fault(there, shape, section) {
         Some(found) => Err(Fault {
             refusal: found.refusal,
             place: place + 8 * found.at,
         }),
-        None => need(words <= there, Refusal::WordMissing, place + 8 * there),
+        None => need(
+            words <= there.len(),
+            Refusal::WordMissing,
+            place + 8 * there.len(),
+        ),
     }
 }
 

@@ -11,7 +11,7 @@ use files_checks::Fault;
 pub fn check_run(run: &[u64], shape: Shape, section: Section) -> Result<(), Fault>
     ensures { result ≡ run_check run.now shape section }
 {
-    match first_fault(run, shape, section, run.len()) {
+    match first_fault(run, shape, section) {
         Some(found) => Err(Fault {
             refusal: found.refusal,
             place: shape.place(section) + 8 + 8 * found.at,

@@ -5,10 +5,13 @@ use native.Mathlib.Omega.{arith}
 use mathlib.Core.Path.{◌≡◌, refl, ap, ap₂, sym, ◌∙◌}
 use mathlib.Core.List.{List, [], ◌∷◌, ◌++◌, append_assoc, append-nil}
 use mathlib.Core.Bool.{Bool, true, false}
+use Rattle.std.specs.Prelude.{map}
+use Rattle.std.specs.Int.{w64, from_le_bytes, to_le_bytes}
+use Rattle.std.specs.Simd.{first_chunks}
 use borrow.Author.Tests.{leb-true, leb-false, le-leb, lt-leb}
 use lib.Dec.{leb}
 use lib.ListN.{length, get_or, take, drop, length-append, length-drop, take-append-drop}
-use lib.Seq.{take_at, drop_at, drop-cons, drop-drop, drop-append-le, take-append-le, get_or-drop, length-take-le}
+use lib.Seq.{take_at, drop_at, drop-drop, drop-append-le, take-append-le, get_or-drop, take-take, take-length, length-take-le}
 use Rattle.files_words.specs.Bytes.{number_of, bytes_of, as_bytes, words, words_from, word_at, Below}
 
 -- ---- Numbers and bytes.
@@ -103,11 +106,7 @@ module _ (file : List ℕ) (place : ℕ) where
       let none : (length file - place) / 8 ≡ zero = omega arith in
       ap (λ (n : ℕ). words n (drop place file)) none
 
--- ---- A word read from its highest byte down.
-
-pub below_of_lem : (n : ℕ) (s : List ℕ) → ((i : ℕ) → get_or s i 0 < n) → Below n s
-below_of_lem n [] h = tt
-below_of_lem n (x ∷ s) h = (h 0, below_of_lem n s (λ i. h (suc i)))
+-- ---- A word of eight bytes is below 2 ^ 64.
 
 pub number_bound : (m n : ℕ) (s : List ℕ) → Below 256 s → n ≤ m → number_of (take n s) < 256 ^ m
 unfolding number_of
@@ -116,11 +115,6 @@ number_bound zero (suc n) s h p = absurd (omega arith)
 number_bound (suc m) zero s h p = omega (arith, number_bound m zero s h (omega arith))
 number_bound (suc m) (suc n) [] h p = omega (arith, number_bound m zero [] h (omega arith))
 number_bound (suc m) (suc n) (x ∷ s) h p = omega (arith, number_bound m n s h.1 (omega arith), h.0)
-
-pub lower_byte : (s : List ℕ) (place n : ℕ) → place < length s →
-    number_of (take (suc n) (drop place s)) ≡ get_or s place 0 + 256 * number_of (take n (drop (suc place) s))
-unfolding number_of
-lower_byte s place n h = rw (drop-cons s place 0) refl
 
 -- ---- The words of a file, all of them: how many there are, those further on, and each by its place.
 
@@ -199,3 +193,52 @@ word_in_part file place size at h k =
     ∙ ap (drop at) (take-append-drop size rest)
     ∙ drop-drop at place file))
     ∙ sym (word_whole file (place + at) (omega arith))
+
+-- ---- Words by the library's names: eight bytes as a word, and the whole words from a place on as chunks of eight bytes.
+pub le_word : (bs : List ℕ) → length bs ≡ 8 → from_le_bytes w64 bs ≡ number_of bs
+unfolding number_of
+le_word (a ∷ b ∷ c ∷ d ∷ e ∷ f ∷ g ∷ h ∷ []) l = omega arith
+le_word (a ∷ b ∷ c ∷ d ∷ e ∷ f ∷ g ∷ h ∷ i ∷ bs) l = absurd (omega arith)
+le_word (a ∷ b ∷ c ∷ d ∷ e ∷ f ∷ g ∷ []) l = absurd (omega arith)
+le_word (a ∷ b ∷ c ∷ d ∷ e ∷ f ∷ []) l = absurd (omega arith)
+le_word (a ∷ b ∷ c ∷ d ∷ e ∷ []) l = absurd (omega arith)
+le_word (a ∷ b ∷ c ∷ d ∷ []) l = absurd (omega arith)
+le_word (a ∷ b ∷ c ∷ []) l = absurd (omega arith)
+le_word (a ∷ b ∷ []) l = absurd (omega arith)
+le_word (a ∷ []) l = absurd (omega arith)
+le_word [] l = absurd (omega arith)
+
+-- The first eight bytes of a part of a file are the word where it begins.
+pub part_word : (file rest bytes : List ℕ) (place : ℕ) → rest ≡ take (length file - place) (drop place file) → length rest + place ≡ length file → 8 ≤ length rest →
+    bytes ≡ take 8 rest → from_le_bytes w64 bytes ≡ word_at file place
+part_word file rest bytes place e l h b =
+    let long : length bytes ≡ 8 = ap length b ∙ length-take-le 8 rest h in
+    let from : take 8 rest ≡ take 8 (drop place file) = ap (take 8) e ∙ take-take 8 (length file - place) (drop place file) (omega arith) in
+    le_word bytes long ∙ ap number_of (b ∙ from) ∙ sym (word_whole file place (omega arith))
+
+pub le_bytes : (w : ℕ) → to_le_bytes w64 w ≡ bytes_of 8 w
+unfolding bytes_of
+le_bytes w =
+    let q2 : w / 256 / 256 ≡ w / 256 ^ 2 = omega arith in
+    let q3 : w / 256 ^ 2 / 256 ≡ w / 256 ^ 3 = omega arith in
+    let q4 : w / 256 ^ 3 / 256 ≡ w / 256 ^ 4 = omega arith in
+    let q5 : w / 256 ^ 4 / 256 ≡ w / 256 ^ 5 = omega arith in
+    let q6 : w / 256 ^ 5 / 256 ≡ w / 256 ^ 6 = omega arith in
+    let q7 : w / 256 ^ 6 / 256 ≡ w / 256 ^ 7 = omega arith in
+    simp (q2, q3, q4, q5, q6, q7) refl
+
+chunk_words : (n : ℕ) (s : List ℕ) → words n s ≡ map number_of (first_chunks 8 n s)
+unfolding words
+chunk_words zero s = refl
+chunk_words (suc n) s = ap (λ (ws : List ℕ). number_of (take 8 s) ∷ ws) (chunk_words n (drop 8 s))
+
+pub words_in_chunks : (file : List ℕ) (place : ℕ) {chunks : List (List ℕ)} →
+    let rest = take (length file - place) (drop place file) in
+    chunks ≡ first_chunks 8 (length rest / 8) rest → map number_of chunks ≡ words_from file place
+unfolding words_from
+words_in_chunks file place {chunks} e =
+    let rest = drop place file in
+    let all : take (length file - place) rest ≡ rest = ap (λ (n : ℕ). take n rest) (sym (length-drop place file)) ∙ take-length rest in
+    ap (map number_of) (e ∙ ap (λ (s : List ℕ). first_chunks 8 (length s / 8) s) all)
+    ∙ sym (chunk_words (length rest / 8) rest)
+    ∙ ap (λ (n : ℕ). words (n / 8) rest) (length-drop place file)

@@ -6,12 +6,14 @@ use Rattle.files_words.proofs.WordLaws.{length-as_bytes}
 use Rattle.files_words.proofs.PutLaws.{put_outside}
 use Rattle.files_words.proofs.put_words.Goals as goal
 
-pub returns-then-space-place : goal.returns-then-space-place
-returns-then-space-place c =
+pub returns-in_default : goal.returns-in_default
+returns-in_default c =
     let a = c.args in
-    sym (put_outside a.room.now (as_bytes a.run.now) a.place (omega arith))
+    let h = c.in_default.ensures in
+    sym (put_outside a.room.now (as_bytes a.run.now) a.place (omega (arith, h)))
 
-pub returns-then-space-place-2 : goal.returns-then-space-place-2
-returns-then-space-place-2 c =
+pub returns-else-run-space : goal.returns-else-run-space
+returns-else-run-space c =
     let a = c.args in
-    sym (put_outside a.room.now (as_bytes a.run.now) a.place (omega (arith, length-as_bytes a.run.now)))
+    let h = c.in-Some.ensures in
+    sym (put_outside a.room.now (as_bytes a.run.now) a.place (omega (arith, h, length-as_bytes a.run.now)))

@@ -4,6 +4,7 @@ use native.Mathlib.Omega.{arith}
 use mathlib.Core.List.{List, []}
 use mathlib.Core.Path.{◌≡◌, sym, ap, ap₂, ◌∙◌}
 use borrow.Author.Rules.{rules}
+use lib.ListN.{length}
 use Rattle.files_words.specs.Bytes.{word_at, words_from}
 use Rattle.files_checks.specs.Checks.{Check, walk, count_check, counted_check}
 use Rattle.files_checks.proofs.CheckLaws.{goes_on}
@@ -17,11 +18,11 @@ use Rattle.files_formats.proofs.files.check_section.Goals as goal
 counted : (file : List ℕ) {check : Check} {place limit : ℕ} {p l : ℕ} → check ≡ count_check file place limit → place ≡ p → limit ≡ l → check ≡ count_check file p l
 counted file e p l = e ∙ ap₂ (count_check file) p l
 
--- the words are few
-few : (c : goal.After-width) → c.word_at.result * c.width.result ≤ 2 ^ 16 * 2 ^ 16
+-- the count word is whole, and the words are few
+few : (c : goal.After-width) → (c.place-place.result + 8 ≤ length c.args.file.now) × (c.word_at.result * c.width.result ≤ 2 ^ 16 * 2 ^ 16)
 few c =
-    (few_words c.args.file.now c.place-place.result c.limit.result c.width.result (search rules) (omega (arith, c.width.ensures.2))
-    (sym c.check_count.ensures ∙ c.in_ok-check_count.was) c.word_at.ensures).1
+    few_words c.args.file.now c.place-place.result c.limit.result c.width.result (search rules) (omega (arith, c.width.ensures.2))
+    (sym c.check_count.ensures ∙ c.in_ok-check_count.was) c.word_at.ensures
 
 pub returns-in_err-check_count : goal.returns-in_err-check_count
 unfolding section_check counted_check
@@ -33,7 +34,7 @@ pub overflow_mul-words : goal.overflow_mul-words
 overflow_mul-words c = omega (arith, few c)
 
 pub walk_words-requires : goal.walk_words-requires
-walk_words-requires c = omega (arith, few c, c.place-place.ensures.1)
+walk_words-requires c = (omega (arith, few c), omega (arith, few c, c.place-place.ensures.1))
 
 pub returns : goal.returns
 unfolding section_check counted_check

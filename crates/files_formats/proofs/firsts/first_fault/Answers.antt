@@ -3,7 +3,9 @@ use Prim.Native.Nat.{ℕ}
 use native.Mathlib.Omega.{arith}
 use borrow.Author.Rules.{rules}
 use mathlib.Core.Path.{◌≡◌, sym}
-use Rattle.std.specs.Prelude.{Option, None, Some, MatchOption}
+use lib.ListN.{length}
+use Rattle.std.proofs.lemmas.List.{length-map}
+use Rattle.std.specs.Prelude.{map, Option, None, Some, MatchOption}
 use Rattle.files_formats.specs.declared.firsts.Found.{Found}
 use Rattle.files_formats.specs.Kinds.{reached}
 use Rattle.files_formats.proofs.FirstLaws.{all_columns}
@@ -19,12 +21,12 @@ loop-column-preserved g c =
     let a = c.args in
     let w = c.width-w in
     let l = c.loop-column in
-    let until = until_reached l.found a.bound c.map_or-until.result (search rules) in
+    let until = until_reached l.found (length a.words.now) c.map_or-until.result (search rules) in
     rw c.or-found.ensures
-    (next_column _ c.below-below.result (g.W.Words.words a.words) a.bound w.result l.column c.kind_at-kind.result l.found c.first_of_column.result w.ensures.0
-    c.requires c.loop-column-test.true c.kind_at-kind.ensures l.invariant (rw until at c.first_of_column.ensures))
+    (next_column _ c.below-below.result (map g.W.Word.number a.words.now) (length a.words.now) w.result l.column c.kind_at-kind.result l.found c.first_of_column.result w.ensures.0
+    (omega (arith, length-map a.words.now g.W.Word.number)) c.loop-column-test.true c.kind_at-kind.ensures l.invariant (rw until at c.first_of_column.ensures))
 
 pub returns : goal.returns
 returns g c =
     let all : c.loop-column.column ≡ c.width-w.result = omega arith in
-    rw (sym c.below-below.ensures) (all_columns _ c.width-w.result c.args.bound c.loop-column.found c.width-w.ensures.1 (rw all at c.loop-column.invariant))
+    rw (sym c.below-below.ensures) (all_columns _ c.width-w.result (length c.args.words.now) c.loop-column.found c.width-w.ensures.1 (rw all at c.loop-column.invariant))

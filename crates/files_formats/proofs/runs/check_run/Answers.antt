@@ -3,6 +3,7 @@ use Prim.Native.Nat.{ℕ, ◌+◌, ◌*◌}
 use native.Mathlib.Omega.{arith}
 use mathlib.Core.Path.{refl, sym, ap, ◌∙◌}
 use lib.ListN.{length}
+use Rattle.std.proofs.lemmas.List.{map-id}
 use Rattle.files_checks.specs.Checks.{fault}
 use Rattle.files_formats.specs.Elements.{kinds_of}
 use Rattle.files_formats.specs.Shapes.{below_of, place_of, run_check}
@@ -15,12 +16,12 @@ returns-in-Some c =
     let a = c.args in
     let found = c.in-Some.found in
     ap (λ (p : ℕ). fault found.refusal (p + 8 + 8 * found.at)) c.place.ensures.0
-    ∙ one_found (kinds_of a.shape.edition a.section) (below_of a.shape a.section) a.run.now (place_of a.shape a.section + 8) (length a.run.now) _ found
-    (omega arith) (omega arith) c.in-Some.ensures
+    ∙ one_found (kinds_of a.shape.edition a.section) (below_of a.shape a.section) a.run.now (place_of a.shape a.section + 8) (length a.run.now) (length a.run.now) found
+    (omega arith) (omega arith) (rw (map-id a.run.now) at c.in-Some.ensures)
 
 pub returns-in-None : goal.returns-in-None
 unfolding run_check
 returns-in-None c =
     let a = c.args in
-    sym (none_found (kinds_of a.shape.edition a.section) (below_of a.shape a.section) a.run.now (place_of a.shape a.section + 8) (length a.run.now) _
-    refl refl c.in-None.ensures)
+    sym (none_found (kinds_of a.shape.edition a.section) (below_of a.shape a.section) a.run.now (place_of a.shape a.section + 8) (length a.run.now) (length a.run.now)
+    refl refl (rw (map-id a.run.now) at c.in-None.ensures))
