@@ -1,6 +1,6 @@
--- Refusals by their numbers: each has its own, above 0 and below 64; so an answer is known by its number, or by its value where it is not refused.
+-- Refusals by their numbers: each has its own, above 0 and below 64; so an answer is known by its number, and by its value where it is not refused.
 use Rattle.std.proofs.Common.{◌≡◌, sym, ap, ◌∙◌, refl, ℕ, ◌<◌, Result, Ok, Err, arith}
-use lib.Dec.{eqb}
+use lib.Dec.{eqb, lit<}
 use Rattle.std.specs.Result.{result_unwrap_or}
 use Rattle.bits.specs.Choice.{pick}
 use Rattle.bits.specs.Refusal.{number_of, number_in}
@@ -66,68 +66,48 @@ of_number n =
     pick (eqb n 51) CountsDiffer (
     AnswerLength))))))))))))))))))))))))))
 
-number_back : (r : Refusal) → of_number (number_of r) ≡ r
-number_back PartialsLength = refl
-number_back AtCentre = refl
-number_back StartNotFinite = refl
-number_back AllShort = refl
-number_back Unreadable = refl
-number_back RadiusNotPositive = refl
-number_back EndNotFinite = refl
-number_back NoRoot = refl
-number_back WordMissing = refl
-number_back UnknownEdition = refl
-number_back TooMany = refl
-number_back NoSuchRecord = refl
-number_back BytesLeft = refl
-number_back RoomTooShort = refl
-number_back NotWholeRecords = refl
-number_back MuNotFinite = refl
-number_back XNotFinite = refl
-number_back YNotFinite = refl
-number_back ZNotFinite = refl
-number_back VxNotFinite = refl
-number_back VyNotFinite = refl
-number_back VzNotFinite = refl
-number_back TauNotFinite = refl
-number_back NotOneEach = refl
-number_back StatesInUse = refl
-number_back CountsDiffer = refl
-number_back AnswerLength = refl
+-- What is known of each number: it gives its refusal back; it is not 0, which says that there is no refusal; and it fits six bits.
+record Known (r : Refusal) : Type 0 where
+  back : of_number (number_of r) ≡ r
+  above : 0 < number_of r
+  fits : number_of r < 64
+
+known : (r : Refusal) → Known r
+known PartialsLength = record { back = refl; above = lit< tt; fits = lit< tt }
+known AtCentre = record { back = refl; above = lit< tt; fits = lit< tt }
+known StartNotFinite = record { back = refl; above = lit< tt; fits = lit< tt }
+known AllShort = record { back = refl; above = lit< tt; fits = lit< tt }
+known Unreadable = record { back = refl; above = lit< tt; fits = lit< tt }
+known RadiusNotPositive = record { back = refl; above = lit< tt; fits = lit< tt }
+known EndNotFinite = record { back = refl; above = lit< tt; fits = lit< tt }
+known NoRoot = record { back = refl; above = lit< tt; fits = lit< tt }
+known WordMissing = record { back = refl; above = lit< tt; fits = lit< tt }
+known UnknownEdition = record { back = refl; above = lit< tt; fits = lit< tt }
+known TooMany = record { back = refl; above = lit< tt; fits = lit< tt }
+known NoSuchRecord = record { back = refl; above = lit< tt; fits = lit< tt }
+known BytesLeft = record { back = refl; above = lit< tt; fits = lit< tt }
+known RoomTooShort = record { back = refl; above = lit< tt; fits = lit< tt }
+known NotWholeRecords = record { back = refl; above = lit< tt; fits = lit< tt }
+known MuNotFinite = record { back = refl; above = lit< tt; fits = lit< tt }
+known XNotFinite = record { back = refl; above = lit< tt; fits = lit< tt }
+known YNotFinite = record { back = refl; above = lit< tt; fits = lit< tt }
+known ZNotFinite = record { back = refl; above = lit< tt; fits = lit< tt }
+known VxNotFinite = record { back = refl; above = lit< tt; fits = lit< tt }
+known VyNotFinite = record { back = refl; above = lit< tt; fits = lit< tt }
+known VzNotFinite = record { back = refl; above = lit< tt; fits = lit< tt }
+known TauNotFinite = record { back = refl; above = lit< tt; fits = lit< tt }
+known NotOneEach = record { back = refl; above = lit< tt; fits = lit< tt }
+known StatesInUse = record { back = refl; above = lit< tt; fits = lit< tt }
+known CountsDiffer = record { back = refl; above = lit< tt; fits = lit< tt }
+known AnswerLength = record { back = refl; above = lit< tt; fits = lit< tt }
 
 -- Two refusals have two numbers.
 pub one_refusal : (r s : Refusal) → number_of r ≡ number_of s → r ≡ s
-one_refusal r s e = sym (number_back r) ∙ ap of_number e ∙ number_back s
+one_refusal r s e = sym (known r).back ∙ ap of_number e ∙ (known s).back
 
--- No refusal has the number 0, which says that there is none; and each fits where a record has six bits for it.
+-- No refusal has the number 0, and none has 64 or more.
 pub number_bounds : (r : Refusal) → (0 < number_of r) × (number_of r < 64)
-number_bounds PartialsLength = omega arith
-number_bounds AtCentre = omega arith
-number_bounds StartNotFinite = omega arith
-number_bounds AllShort = omega arith
-number_bounds Unreadable = omega arith
-number_bounds RadiusNotPositive = omega arith
-number_bounds EndNotFinite = omega arith
-number_bounds NoRoot = omega arith
-number_bounds WordMissing = omega arith
-number_bounds UnknownEdition = omega arith
-number_bounds TooMany = omega arith
-number_bounds NoSuchRecord = omega arith
-number_bounds BytesLeft = omega arith
-number_bounds RoomTooShort = omega arith
-number_bounds NotWholeRecords = omega arith
-number_bounds MuNotFinite = omega arith
-number_bounds XNotFinite = omega arith
-number_bounds YNotFinite = omega arith
-number_bounds ZNotFinite = omega arith
-number_bounds VxNotFinite = omega arith
-number_bounds VyNotFinite = omega arith
-number_bounds VzNotFinite = omega arith
-number_bounds TauNotFinite = omega arith
-number_bounds NotOneEach = omega arith
-number_bounds StatesInUse = omega arith
-number_bounds CountsDiffer = omega arith
-number_bounds AnswerLength = omega arith
+number_bounds r = ((known r).above, (known r).fits)
 
 -- Two answers with the same number, and with the same value where they are not refused, are the same.
 pub one_result : {A : Type 0} (x y : Result A Refusal) (d : A) → number_in x ≡ number_in y → result_unwrap_or x d ≡ result_unwrap_or y d → x ≡ y

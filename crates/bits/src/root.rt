@@ -7,11 +7,13 @@ ghost use Rattle.bits.specs.Root.{NearestRoot, RootAnswer, word_in, root_refusal
 use super::refusal::Refusal;
 use super::words::{FIELD, SIGN};
 
-// A number above zero as `digits` times a power of two, with 53 digits.
+// A number above zero as `digits` times a power of two, with 53 digits. It is counted in units of 2^-1126.
 #[derive(Clone, Copy)]
 struct Scaled {
     digits: u64,
     power: u64,
+    ghost has_53_digits: { (2 ^ 52 ≤ «digits») × («digits» < 2 ^ 53) },
+    ghost in_range: { power ≤ 2097 },
 }
 
 // What is known of the root of m * 2^54 by its first digits: `twice` is twice the root so far, q, and what q^2 leaves of m * 2^54 is `left` times the next
@@ -69,7 +71,7 @@ fn root_digits(m: u64) -> u64
 // power of two that makes up for it: together they are digits * 2^52.
 fn normalised(digits: u64) -> Scaled
     requires { (0 < digits) × (digits < 2 ^ 52) }
-    ensures { (result.«digits» * 2 ^ result.power ≡ digits * 2 ^ 52) × (2 ^ 52 ≤ result.«digits») × (result.«digits» < 2 ^ 53) × (result.power ≤ 52) }
+    ensures { result.«digits» * 2 ^ result.power ≡ digits * 2 ^ 52 }
 {
     let up = digits.leading_zeros() as u64 - 11;
     Scaled {
@@ -78,12 +80,15 @@ fn normalised(digits: u64) -> Scaled
     }
 }
 
-// The word of the root of a double that is m * 2^e, counted in units of 2^-1126. The 54 digits of the root of m, or of 2 m where e is odd, are halved
-// and rounded up where the last is 1; the first of the 53 that are left counts as 1 in the exponent field.
-fn packed_root(m: u64, e: u64) -> u64
-    requires { (2 ^ 52 ≤ m) × (m < 2 ^ 53) × (e ≤ 2097) }
-    ensures { (b : ℕ) → units b * 2 ^ 52 ≡ m * 2 ^ e → NearestRoot b result }
+// The word of the root of a double that is m * 2^e. The 54 digits of the root of m, or of 2 m where e is odd, are halved and rounded up where the last is 1;
+// the first of the 53 that are left counts as 1 in the exponent field.
+fn packed_root(number: Scaled) -> u64
+    ensures { (b : ℕ) → units b * 2 ^ 52 ≡ number.«digits» * 2 ^ number.power → NearestRoot b result }
 {
+    let Scaled {
+        digits: m,
+        power: e,
+    } = number;
     let q = root_digits(m * (1 + e % 2));
     (e / 2 + 485) * FIELD + (q + 1) / 2
 }
@@ -102,14 +107,16 @@ pub fn root_of(word: u64) -> Result<u64, Refusal>
             if SIGN <= word {
                 return Err(Refusal::NoRoot);
             }
-            let n = normalised(digits);
-            Ok(packed_root(n.digits, n.power))
+            Ok(packed_root(normalised(digits)))
         }
         1..=2046 => {
             if SIGN <= word {
                 return Err(Refusal::NoRoot);
             }
-            Ok(packed_root(digits + FIELD, field + 51))
+            Ok(packed_root(Scaled {
+                digits: digits + FIELD,
+                power: field + 51,
+            }))
         }
         2047.. => Err(Refusal::NoRoot),
     }

@@ -1,27 +1,23 @@
 -- The law `moved_up` of Leading.antt, at the argument's leading zeros; 53 digits fit the word.
 use mathlib.Core.Path.{◌≡◌}
-use Prim.Native.Nat.{◌*◌, ◌%◌, ◌^◌}
-use native.Mathlib.Nat.{lt_of_le_of_lt}
+use Prim.Native.Nat.{ℕ, ◌-◌, ◌*◌, ◌%◌, ◌^◌, ◌<◌}
 use native.Mathlib.Omega.{arith}
-use lib.Count.{leading_le}
-use Rattle.bits.proofs.Leading.{up, up_small, moved_up}
+use Rattle.bits.proofs.Leading.{Normalised, up, up_small, moved_up}
 use Rattle.bits.proofs.root.normalised.Goals as goal
 
-pub overflow_cast-up : goal.overflow_cast-up
-overflow_cast-up c = record { fits = lt_of_le_of_lt (leading_le 64 _) (omega arith) }
+moved : (t : ℕ) → 0 < t → t < 2 ^ 52 → Normalised t ((t * 2 ^ up t) % 2 ^ 64) (52 - up t)
+moved t a b =
+    let n = moved_up t a (omega arith) in
+    let w : (t * 2 ^ up t) % 2 ^ 64 ≡ t * 2 ^ up t = omega (arith, n.2) in
+    rw w n
 
 pub overflow_sub-up : goal.overflow_sub-up
 overflow_sub-up c = (up_small (omega arith) (omega arith)).0
 
-pub overflow_shl-result : goal.overflow_shl-result
-overflow_shl-result c = lt_of_le_of_lt (up_small (omega arith) (omega arith)).1 (omega arith)
-
-pub overflow_sub-result : goal.overflow_sub-result
-overflow_sub-result c = (up_small (omega arith) (omega arith)).1
+pub invariant_of-result : goal.invariant_of-result
+invariant_of-result c =
+    let n = moved _ c.requires.0 c.requires.1 in
+    record { has_53_digits = (n.1, n.2); in_range = omega (arith, n.3) }
 
 pub returns : goal.returns
-returns c =
-    let t = c.args.digits in
-    let n = moved_up t (omega arith) (omega arith) in
-    let w : (t * 2 ^ up t) % 2 ^ 64 ≡ t * 2 ^ up t = omega (arith, n.2) in
-    rw w n
+returns c = (moved _ c.requires.0 c.requires.1).0
