@@ -1,16 +1,14 @@
 // One turn inward: one point, at the proposed place or at the halving place. A point is tried in one function alone, so that the compiler can write it
 // into the loop.
-ghost use Rattle.std.specs.Prelude.{◌≡◌, true, ◌-◌, ◌<◌, IfSome, is_none, unwrap_or};
+ghost use Rattle.std.specs.Prelude.{◌≡◌, true, ◌-◌, ◌<◌, is_none, unwrap_or};
 ghost use Rattle.bits.specs.Choice.{pick};
 ghost use Rattle.search_points.specs.Trial.{trial_at};
-ghost use Rattle.search_rule.specs.Rule.{attempt, is_inside, is_wide, halfway, counted};
+ghost use Rattle.search_rule.specs.Rule.{attempt, is_wide, halfway, counted};
 ghost use Rattle.search_proposals.specs.Proposals.{proposed};
 
-use bits::words::{INFINITY, is_finite};
-use search_points::{Passage, Sort, Trial, anomaly_at, unevaluated_as};
+use search_points::Passage;
 use search_proposals::proposal;
 use search_rule::{Next, Pair, moved_by};
-use series::first_sums;
 
 // The place to propose, where one fits: after a turn that tried a proposed place, the halving place is next.
 pub fn offer(passage: Passage, pair: Pair, before: Option<u64>) -> Option<u64>
@@ -33,32 +31,14 @@ fn chosen_place(pair: Pair, offered: Option<u64>) -> u64
     }
 }
 
-// The point at a place above 0, for the inward turns, which try most points: `first_sums` has no other caller, so the compiler writes it into their loop.
-fn try_inner(passage: Passage, place: u64) -> Trial
-    requires { 0 < place }
-    ensures { result ≡ trial_at passage.initial passage.tau place }
-{
-    if INFINITY <= place {
-        return unevaluated_as(Sort::Unreadable);
-    }
-    let alpha = passage.initial.alpha;
-    let psi = anomaly_at(passage.tau, place);
-    if is_finite(alpha * (psi.0 * psi.0)) {
-        let first = first_sums(alpha, psi);
-        return passage.point_of(first.c0, first.sums);
-    }
-    unevaluated_as(Sort::Unreadable)
-}
-
 // One more point is tried, and the pair moved by it.
 pub fn tried(passage: Passage, pair: Pair, offered: Option<u64>, points: u64) -> Next
     requires wide { is_wide pair ≡ true }
-    requires fits { IfSome offered (λ place. is_inside pair place ≡ true) }
     requires countable { points < 2000 }
     ensures { result ≡ counted points (attempt (trial_at passage.initial passage.tau) pair (unwrap_or offered (halfway pair))) }
 {
     let place = chosen_place(pair, offered);
-    moved_by(pair, place, try_inner(passage, place), points + 1)
+    moved_by(pair, place, passage.try_at(place), points + 1)
 }
 
 // The rounds left after a turn: the halving place ends its round.

@@ -40,7 +40,6 @@ tried-next-requires c =
     let w = c in
     record {
       wide = sym w.is_wide.ensures ∙ c.if-not-is_wide.false;
-      fits = subst (Fits w.loop-left.pair) (sym w.offer-offered.ensures) (offer_fits w.loop-left.pair w.args.passage.initial w.args.passage.tau (is_none w.loop-left.offered));
       countable = omega (arith, w.loop-left.invariant.1);
     }
 

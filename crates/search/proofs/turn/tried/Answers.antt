@@ -4,4 +4,4 @@ use Rattle.search.proofs.turn.tried.Goals as goal
 
 pub returns : goal.returns
 unfolding counted
-returns c = simp (c.try_inner.ensures, c.chosen_place-place.ensures) at c.moved_by.ensures
+returns c = simp (c.try_at.ensures, c.chosen_place-place.ensures) at c.moved_by.ensures
