@@ -12,6 +12,7 @@ use states_revolutions::Interval;
 use states_start::{Start, State, Vector};
 
 // f, g, f' and g' at the anomaly whose sums are s and whose radius is r. tau is the interval that was searched.
+#[tactic(auto, unfolding(crate::specs::Results::factors_of))]
 fn factors_at(initial: Initial, tau: Seconds, s: Sums, r: f64) -> Factors
     ensures { result ≡ factors_of initial tau s r }
 {
@@ -24,23 +25,18 @@ fn factors_at(initial: Initial, tau: Seconds, s: Sums, r: f64) -> Factors
 }
 
 // The state to which the factors take a start.
+#[tactic(auto, unfolding(crate::specs::Results::end_state_of))]
 fn end_state(k: Factors, start: State) -> State
     ensures { result ≡ end_state_of k start }
 {
-    let position = Vector {
-        x: k.f * start.position.x + k.g * start.velocity.x,
-        y: k.f * start.position.y + k.g * start.velocity.y,
-        z: k.f * start.position.z + k.g * start.velocity.z,
-    };
-    let velocity = Vector {
-        x: k.fprime * start.position.x + k.gprime * start.velocity.x,
-        y: k.fprime * start.position.y + k.gprime * start.velocity.y,
-        z: k.fprime * start.position.z + k.gprime * start.velocity.z,
-    };
-    State { position, velocity }
+    State {
+        position: k.f * start.position + k.g * start.velocity,
+        velocity: k.fprime * start.position + k.gprime * start.velocity,
+    }
 }
 
 // The arc from a start over an interval, at the anomaly psi that was found. Its figures may be anything: `ended` tests them.
+#[tactic(auto, unfolding(crate::specs::Results::arc_of))]
 pub fn arc_at(start: Start, interval: Interval, psi: Anomaly) -> Arc
     ensures { result ≡ arc_of start interval psi }
 {
@@ -68,19 +64,15 @@ pub fn arc_at(start: Start, interval: Interval, psi: Anomaly) -> Arc
 }
 
 // The acceleration at a position, with the radius of its own time.
+#[tactic(auto, unfolding(crate::specs::Results::acceleration_of))]
 fn acceleration_at(mu: f64, r: f64, position: Vector) -> Vector
     ensures { result ≡ acceleration_of mu r position }
 {
-    let numerator = -mu;
-    let divisor = (r * r) * r;
-    Vector {
-        x: (numerator * position.x) / divisor,
-        y: (numerator * position.y) / divisor,
-        z: (numerator * position.z) / divisor,
-    }
+    (-mu * position) / ((r * r) * r)
 }
 
 // The thirteen figures of an arc.
+#[tactic(auto, unfolding(crate::specs::Results::results_of))]
 fn results_of(arc: Arc) -> Results
     ensures { result ≡ results_of arc }
 {
@@ -101,16 +93,11 @@ fn results_of(arc: Arc) -> Results
 fn end_divisors(r0: f64, r: f64) -> [u64; 5]
     ensures { result ≡ words_of (end_divisors r0 r) }
 {
-    [
-        word_of(r0),
-        word_of(r * r0),
-        word_of(r),
-        word_of((r * r) * r),
-        word_of((r0 * r0) * r0),
-    ]
+    [r0, r * r0, r, (r * r) * r, (r0 * r0) * r0].map(word_of)
 }
 
 // The words of the thirteen figures, in a row.
+#[tactic(auto, unfolding(crate::specs::Results::figures_of))]
 pub fn figures_of(results: Results) -> [u64; 13]
     ensures { result ≡ words_of (figures_of results) }
 {
@@ -132,6 +119,7 @@ pub fn figures_of(results: Results) -> [u64; 13]
 }
 
 // The results of an arc: refusal 7, then refusal 8 without the partials' own part, then the thirteen figures.
+#[tactic(auto, unfolding(crate::specs::Results::ended_of))]
 pub fn ended(arc: Arc) -> Result<Results, Refusal>
     ensures { result ≡ ended_of arc }
 {

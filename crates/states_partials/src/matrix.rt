@@ -58,13 +58,14 @@ pub fn matrix_divisors(r0: f64, r: f64) -> [u64; 8]
     let r_cubed = (r * r) * r;
     let r0_cubed = (r0 * r0) * r0;
     [
-        word_of(r * r0),
-        word_of(r0 * r0),
-        word_of(r * r),
-        word_of(r_cubed * r0_cubed),
-        word_of(r),
-        word_of(r_cubed),
-        word_of(r0),
-        word_of(r0_cubed),
+        r * r0,
+        r0 * r0,
+        r * r,
+        r_cubed * r0_cubed,
+        r,
+        r_cubed,
+        r0,
+        r0_cubed,
     ]
+    .map(word_of)
 }

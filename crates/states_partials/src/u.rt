@@ -77,13 +77,7 @@ fn u_at_whole(arc: Arc, w: WholeSums) -> f64
 fn u_figures(arc: Arc, w: WholeSums) -> [u64; 5]
     ensures { result ≡ words_of (u_figures arc w) }
 {
-    [
-        word_of(w.psi.0),
-        word_of(w.s3),
-        word_of(w.s4),
-        word_of(w.s5),
-        word_of(u_at_whole(arc, w)),
-    ]
+    [w.psi.0, w.s3, w.s4, w.s5, u_at_whole(arc, w)].map(word_of)
 }
 
 // U (s^3/km^2). It takes the whole interval, whatever came off.

@@ -11,6 +11,7 @@ use series::{Anomaly, Seconds};
 const PI: f64 = 3.141592653589793;
 
 // P and Q, where alpha is below zero.
+#[tactic(auto, unfolding(crate::specs::Revolutions::revolution_of))]
 fn revolution_of(initial: Initial) -> Revolution
     ensures { result ≡ revolution_of initial }
 {
@@ -22,6 +23,7 @@ fn revolution_of(initial: Initial) -> Revolution
 }
 
 // Whether an orbit closes: alpha below zero, and mu above.
+#[tactic(auto, unfolding(crate::specs::Revolutions::is_closed))]
 fn closes(initial: Initial) -> bool
     ensures { result ≡ is_closed initial }
 {
@@ -29,6 +31,7 @@ fn closes(initial: Initial) -> bool
 }
 
 // Whether P is finite and above zero.
+#[tactic(auto, unfolding(crate::specs::Revolutions::is_usable))]
 fn is_usable(revolution: Revolution) -> bool
     ensures { result ≡ is_usable revolution }
 {
@@ -36,20 +39,17 @@ fn is_usable(revolution: Revolution) -> bool
 }
 
 // The course of an orbit: its revolution, where it closes and the period can be used. Else no revolution comes off an interval. It belongs to the state, not to an interval: many can share it.
+#[tactic(auto, unfolding(crate::specs::Revolutions::course_of))]
 pub fn course_of(initial: Initial) -> Option<Revolution>
     ensures { result ≡ course_of initial }
 {
-    if !closes(initial) {
-        return None;
-    }
-    let revolution = revolution_of(initial);
-    if !is_usable(revolution) {
-        return None;
-    }
-    Some(revolution)
+    closes(initial)
+        .then(|| revolution_of(initial))
+        .filter(|revolution| is_usable(*revolution))
 }
 
 // An interval that nothing comes off: all of it is searched.
+#[tactic(auto, unfolding(crate::specs::Revolutions::as_it_is))]
 fn as_it_is(whole: WholeInterval) -> Interval
     ensures { result ≡ as_it_is whole }
 {
@@ -61,6 +61,7 @@ fn as_it_is(whole: WholeInterval) -> Interval
 }
 
 // An interval without n revolutions.
+#[tactic(auto, unfolding(crate::specs::Revolutions::without_n))]
 fn without_n(n: f64, revolution: Revolution, whole: WholeInterval) -> Interval
     ensures { result ≡ without_n n revolution whole }
 {
@@ -75,6 +76,7 @@ fn without_n(n: f64, revolution: Revolution, whole: WholeInterval) -> Interval
 }
 
 // An interval without its revolutions: as many as leave the least to search, if they are within ±2^40.
+#[tactic(auto, unfolding(crate::specs::Revolutions::without_revolutions))]
 fn without_revolutions(revolution: Revolution, whole: WholeInterval) -> Interval
     ensures { result ≡ without_revolutions revolution whole }
 {
@@ -85,6 +87,7 @@ fn without_revolutions(revolution: Revolution, whole: WholeInterval) -> Interval
 }
 
 // The interval as it is searched on a course, beside the whole of it.
+#[tactic(auto, unfolding(crate::specs::Revolutions::interval_of))]
 pub fn interval_of(course: Option<Revolution>, whole: WholeInterval) -> Interval
     ensures { result ≡ interval_of course whole }
 {

@@ -1,4 +1,6 @@
 // What comes in, and what is known of it before the search. Lengths are in km, times in s.
+use std::ops::{Add, Div, Mul};
+
 use search_points::Initial;
 use states_revolutions::{Revolution, WholeInterval};
 
@@ -8,6 +10,57 @@ pub struct Vector {
     pub x: f64,
     pub y: f64,
     pub z: f64,
+}
+
+impl Mul<Vector> for f64 {
+    ghost use Rattle.std.specs.Prelude.{◌≡◌};
+    ghost use Rattle.states_start.specs.Vectors.{times};
+
+    type Output = Vector;
+
+    ghost mul_gives = { λ k v product. product ≡ times k v };
+
+    fn mul(self, v: Vector) -> Vector {
+        Vector {
+            x: self * v.x,
+            y: self * v.y,
+            z: self * v.z,
+        }
+    }
+}
+
+impl Add for Vector {
+    ghost use Rattle.std.specs.Prelude.{◌≡◌};
+    ghost use Rattle.states_start.specs.Vectors.{plus};
+
+    type Output = Vector;
+
+    ghost add_gives = { λ v w sum. sum ≡ plus v w };
+
+    fn add(self, w: Vector) -> Vector {
+        Vector {
+            x: self.x + w.x,
+            y: self.y + w.y,
+            z: self.z + w.z,
+        }
+    }
+}
+
+impl Div<f64> for Vector {
+    ghost use Rattle.std.specs.Prelude.{◌≡◌};
+    ghost use Rattle.states_start.specs.Vectors.{over};
+
+    type Output = Vector;
+
+    ghost div_gives = { λ v k quotient. quotient ≡ over v k };
+
+    fn div(self, k: f64) -> Vector {
+        Vector {
+            x: self.x / k,
+            y: self.y / k,
+            z: self.z / k,
+        }
+    }
 }
 
 // Where a body is and how it moves.

@@ -1,30 +1,21 @@
 // The eight words that come in: mu, x, y, z, vx, vy, vz, tau.
-ghost use Rattle.std.specs.Prelude.{◌≡◌, false, ◌+◌, ◌<◌};
-ghost use Rattle.bits.specs.Runs.{has};
-ghost use Rattle.bits.specs.declared.runs.Sought.TheVariants.{NotFinite};
-ghost use Rattle.states_start.specs.Given.{double_at, vector_at, figure_refusal, read_of};
+ghost use Rattle.std.specs.Prelude.{◌≡◌, ◌+◌, ◌<◌};
+ghost use Rattle.states_start.specs.Given.{vector_at, figure_refusal, read_of};
 
 use super::figures::{Given, Orbit, State, Vector};
+use bits::words::double_of;
 use bits::{Refusal, Sought};
 use states_revolutions::WholeInterval;
 
-// The double of one of eight finite words.
-fn double_at(words: [u64; 8], k: usize) -> f64
-    requires { (has NotFinite words ≡ false) × (k < 8) }
-    ensures { result ≡ double_at words k }
-{
-    f64::from_bits(words[k])
-}
-
-// The vector of one of them and the next two.
+// The vector of one of the eight words and the next two.
 fn vector_at(words: [u64; 8], k: usize) -> Vector
-    requires { (has NotFinite words ≡ false) × (k + 2 < 8) }
+    requires { k + 2 < 8 }
     ensures { result ≡ vector_at words k }
 {
     Vector {
-        x: double_at(words, k),
-        y: double_at(words, k + 1),
-        z: double_at(words, k + 2),
+        x: double_of(words[k]),
+        y: double_of(words[k + 1]),
+        z: double_of(words[k + 2]),
     }
 }
 
@@ -49,6 +40,7 @@ fn figure_refusal(figure: usize) -> Refusal
 }
 
 // The orbit and the whole interval of eight words, if all are finite; else the refusal of the first that is not.
+#[tactic(auto, using(bits::proofs::RunLaws::has_one, bits::proofs::RunLaws::has_none), unfolding(crate::specs::Given::read_of))]
 pub fn orbit_of(words: [u64; 8]) -> Result<Given, Refusal>
     ensures { result ≡ read_of words }
 {
@@ -59,8 +51,8 @@ pub fn orbit_of(words: [u64; 8]) -> Result<Given, Refusal>
     let position = vector_at(words, 1);
     let velocity = vector_at(words, 4);
     let state = State { position, velocity };
-    let mu = double_at(words, 0);
+    let mu = double_of(words[0]);
     let orbit = Orbit { mu, state };
-    let whole = WholeInterval(double_at(words, 7));
+    let whole = WholeInterval(double_of(words[7]));
     Ok(Given { orbit, whole })
 }

@@ -13,6 +13,7 @@ use series::{Anomaly, Seconds};
 const FIRST_STEP: f64 = 0.00000095367431640625;
 
 // a.x·b.x + a.y·b.y + a.z·b.z, from the left.
+#[tactic(auto, unfolding(crate::specs::Initial::dot))]
 fn product(a: Vector, b: Vector) -> f64
     ensures { result ≡ dot a b }
 {
@@ -23,17 +24,12 @@ fn product(a: Vector, b: Vector) -> f64
 fn tested(sum: f64, sigma0: f64, v2: f64, quotient: f64, alpha: f64) -> [u64; 5]
     ensures { result ≡ words_of (five_figures sum sigma0 v2 quotient alpha) }
 {
-    [
-        word_of(sum),
-        word_of(sigma0),
-        word_of(v2),
-        word_of(quotient),
-        word_of(alpha),
-    ]
+    [sum, sigma0, v2, quotient, alpha].map(word_of)
 }
 
 // r0 (km), sigma0 (km^2/s) and alpha (km^2/s^2) of an orbit, beside its mu and its state, and its course; refusal 3, then 4. H
 // belongs to the interval: see `first_step`.
+#[tactic(auto, unfolding(crate::specs::Initial::begun_of))]
 pub fn start_of(orbit: Orbit) -> Result<Begun, Refusal>
     ensures { result ≡ begun_of orbit }
 {
@@ -66,6 +62,7 @@ pub fn start_of(orbit: Orbit) -> Result<Begun, Refusal>
 }
 
 // H (s/km), an anomaly, from which the search goes outward. tau is the interval that is searched.
+#[tactic(auto, unfolding(crate::specs::Initial::first_step_of))]
 pub fn first_step(initial: Initial, tau: Seconds) -> Anomaly
     ensures { result ≡ first_step_of initial tau }
 {
