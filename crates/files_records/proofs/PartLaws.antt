@@ -4,11 +4,12 @@ use mathlib.Core.List.{List, ◌++◌, append_assoc}
 use Prim.Native.Nat.{ℕ, suc, ◌+◌, ◌-◌, ◌≤◌}
 use native.Mathlib.Omega.{arith}
 use lib.ListN.{length, get_or, take, drop, set, length-append, length-drop}
-use lib.Seq.{paste, paste-suc, drop-paste, length-paste, length-take-le, take_at, drop_at, get_or-drop}
-use borrow.Rule.Slice.PartMut.{put_mid, mid_of, Post-is, mid_len}
+use lib.Seq.{paste, paste-suc, drop-paste, length-take-le, take_at, drop_at, get_or-drop}
+use borrow.Rule.Slice.PartMut.{put_mid, mid_of, mid_len}
 use Rattle.bits.specs.Runs.{copied}
 use Rattle.bits.proofs.RunLaws.{copied_all}
 use Rattle.files_words.specs.Bytes.{put}
+use Rattle.files_words.proofs.PutLaws as put_laws
 use Rattle.files_words.proofs.PutLaws.{put_fits}
 
 -- A part of as many words as are copied to it.
@@ -16,12 +17,7 @@ pub part_put : (run words part : List ℕ) (at n : ℕ) → length words ≡ n �
     → put_mid at (at + n - at) run part ≡ put run at words
 part_put run words part at n l h e =
     let same : length (mid_of at (at + n - at) run) ≡ length words = mid_len at (at + n) run h ∙ omega (arith, l) in
-    let all : part ≡ words = e ∙ copied_all words (mid_of at (at + n - at) run) same in
-    let end : at + n ≡ at + length words = ap (λ (k : ℕ). at + k) (sym l) in
-    ap (λ (p : List ℕ). put_mid at (at + n - at) run p) all
-    ∙ ap (λ (rest : List ℕ). take at run ++ (words ++ rest)) (Post-is at (at + n) run (omega arith) ∙ ap (λ (k : ℕ). drop k run) end)
-    ∙ sym (append_assoc (take at run) words (drop (at + length words) run))
-    ∙ sym (put_fits run words at (omega (arith, l)))
+    put_laws.part_put run words part at n l h (e ∙ copied_all words (mid_of at (at + n - at) run) same)
 
 -- ---- No other word is touched; and the words that were put.
 module _ (run words : List ℕ) (place : ℕ) (fits : place + length words ≤ length run) where
@@ -72,9 +68,6 @@ module _ (run : List ℕ) (at gap : ℕ) where
   one_moved j h =
       ap (set (shifted j) (at + j)) (untouched j h)
       ∙ paste-suc run at (drop (at + gap) run) j 0 (omega arith) (long (suc j) h)
-
-  pub length_moved : (j : ℕ) → Room j → length (shifted j) ≡ length run
-  length_moved j h = length-paste run at (drop (at + gap) run) j (omega arith) (long j h)
 
   pub all_moved : (n : ℕ) → Room n → shifted n ≡ put run at (take n (drop (at + gap) run))
   all_moved n h =

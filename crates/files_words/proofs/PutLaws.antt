@@ -5,8 +5,8 @@ use native.Mathlib.Omega.{arith}
 use mathlib.Core.Path.{◌≡◌, refl, ap, sym, ◌∙◌}
 use mathlib.Core.List.{List, [], ◌∷◌, ◌++◌, append_assoc, append-nil}
 use borrow.Author.Tests.{le-leb, lt-leb}
-use lib.ListN.{length, get_or, take, drop, length-append, length-drop, take-append-drop}
-use lib.Seq.{take_at, take-suc, drop-append-add, drop-drop, length-take-le}
+use lib.ListN.{length, get_or, take, drop, set, length-append, length-drop, take-append-drop}
+use lib.Seq.{take_at, take-suc, drop-append-add, drop-drop, length-take-le, set_split}
 use borrow.Rule.Slice.PartMut.{put_mid, Post-is}
 use Rattle.files_words.specs.Bytes.{put, bytes_of, as_bytes}
 use Rattle.files_words.proofs.WordLaws.{length_bytes, length-as_bytes, as_bytes_append}
@@ -46,7 +46,17 @@ put_next room a b place n e h =
     ∙ put_fits (p ++ rest) b (place + length a) (omega arith)
     ∙ rw (front, back, append_assoc (take place room) a b, add_assoc, ← m) (sym (put_fits room (a ++ b) place (omega arith)))
 
--- A part of as many bytes as are copied to it.
+-- one byte or word, stored
+pub put_byte : (room : List ℕ) (place b : ℕ) → place < length room → set room place b ≡ put room place (b ∷ [])
+put_byte room place b h =
+    let next : place + 1 ≡ suc place = omega arith in
+    set_split room place b h
+    ∙ sym
+    (put_fits room (b ∷ []) place (omega arith)
+    ∙ append_assoc (take place room) (b ∷ []) (drop (place + 1) room)
+    ∙ ap (λ (k : ℕ). take place room ++ b ∷ drop k room) next)
+
+-- A part of as many bytes or words as are copied to it.
 pub part_put : (room bs part : List ℕ) (at n : ℕ) → length bs ≡ n → at + n ≤ length room → part ≡ bs → put_mid at (at + n - at) room part ≡ put room at bs
 part_put room bs part at n l h all =
     let end : at + n ≡ at + length bs = ap (λ (k : ℕ). at + k) (sym l) in
