@@ -1,11 +1,12 @@
 // A state appended to a run, or withdrawn from it, and the entry of its centre brought up to date, in a list of either kind.
-ghost use Rattle.std.specs.Prelude.{◌≡◌, suc, ◌*◌, ◌<◌, ◌≤◌, length};
-ghost use Rattle.files_summary.specs.Entries.{state_width, Holds, centre_of};
+ghost use Rattle.std.specs.Prelude.{◌≡◌, suc, ◌*◌, ◌≤◌, length};
+ghost use Rattle.files_summary.specs.Entries.{state_width, centre_of};
 ghost use Rattle.files_summary.specs.Changes.{refuse, one_each, lent_refusal, append_refusal, withdraw_refusal, state_at, changed};
 ghost use Rattle.files_summary.specs.Changes.{append, withdraw, change_beside, run_beside, settled_by};
 
 use crate::entries::{Roster, Summary, entry_of};
 use crate::pieces::Piece;
+use crate::used::InUse;
 use bits::Refusal;
 use files_formats::{Column, Edition, Section, column_at, limit, width};
 use files_records::{move_down, put_record};
@@ -82,15 +83,14 @@ fn withdraw_refusal(which: u64, states: &[u64], roster: Roster, listed: bool) ->
     refuse(centre < roster.centres, Refusal::NoSuchRecord)
 }
 
-// A change that is made, of the states as they now stand, so many of them in use.
-fn changed(states: &[u64], edition: Edition, count: u64, centre: u64) -> Change
-    requires { Holds edition states.now count }
-    ensures { result ≡ changed edition states.now count centre }
+// A change that is made, by the states that are in use afterwards.
+fn changed(used: InUse<'_>, centre: u64) -> Change
+    ensures { result ≡ changed used.entry.edition used.entry.states.now used.entry.count centre }
 {
     Change {
-        count,
+        count: used.count as u64,
         at: centre as usize,
-        entry: entry_of(states, edition, count as usize, centre),
+        entry: entry_of(used, centre),
     }
 }
 
@@ -111,7 +111,15 @@ fn append_state(
     let wide = width(edition, Section::States);
     put_record(states, wide, roster.count as usize, state);
     let centre = state[column_at(edition, Column::Centre)];
-    Ok(changed(states, edition, roster.count + 1, centre))
+    let count = roster.count as usize + 1;
+    Ok(changed(
+        InUse {
+            states,
+            edition,
+            count,
+        },
+        centre,
+    ))
 }
 
 // A state withdrawn, beside such a list.
@@ -131,7 +139,15 @@ fn withdraw_state(
     let wide = width(edition, Section::States);
     let centre = centre_at(states, edition, which as usize);
     move_down(states, wide, roster.count as usize, which as usize);
-    Ok(changed(states, edition, roster.count - 1, centre))
+    let count = roster.count as usize - 1;
+    Ok(changed(
+        InUse {
+            states,
+            edition,
+            count,
+        },
+        centre,
+    ))
 }
 
 // A state appended, and its centre's entry brought up to date.

@@ -1,15 +1,14 @@
 // The entry of a centre, worked out from the states in use.
-ghost use Rattle.std.specs.Prelude.{◌≡◌, ◌+◌, ◌*◌, ◌^◌, ◌<◌, ◌≤◌, length};
+ghost use Rattle.std.specs.Prelude.{◌≡◌, ◌+◌, ◌^◌, ◌<◌};
 ghost use Rattle.files_records.specs.Records.{records_of};
-ghost use Rattle.files_formats.specs.declared.elements.Section.TheVariants.{States};
-ghost use Rattle.files_formats.specs.Elements.{limit_of};
-ghost use Rattle.files_summary.specs.Entries.{state_width, Holds, no_tally, with_epoch, with_state, gathered, shown, centre_entry};
+ghost use Rattle.files_summary.specs.Entries.{state_width, with_epoch, with_state, shown, centre_entry};
 
+use crate::used::InUse;
 use bits::words::{is_nan_word, line_of, word_on};
 use files_formats::{Column, Edition, Section, column_at, width};
 
 // The states in use of a run: their edition, how many they are, and how many centres there are.
-#[derive(Clone, Copy)]
+#[derive(Clone, Copy, Debug, PartialEq, Eq)]
 pub struct Roster {
     pub edition: Edition,
     pub count: u64,
@@ -65,26 +64,6 @@ fn with_state(tally: Tally, centre: u64, its: u64, epoch: u64) -> Tally
     with_epoch(tally, epoch)
 }
 
-// The tally of a centre over so many states, each of so many words, by the columns of the centre's number and of the epoch.
-fn gather(states: &[u64], wide: usize, its: usize, epoch: usize, count: usize, centre: u64) -> Tally
-    requires { (its < wide) × (epoch < wide) × (count ≤ limit_of States) × (count * wide ≤ length states.now) }
-    ensures { result ≡ gathered its epoch centre no_tally (records_of wide states.now count) }
-{
-    let mut tally = Tally {
-        states: 0,
-        nans: 0,
-        first: 0xffff_ffff_ffff_ffff,
-        last: 0,
-    };
-    let mut left = count;
-    while 0 < left {
-        let at = (count - left) * wide;
-        tally = with_state(tally, centre, states[at + its], states[at + epoch]);
-        left -= 1;
-    }
-    tally
-}
-
 // The entry of what was gathered.
 fn shown(tally: Tally) -> Summary
     ensures { result ≡ shown tally }
@@ -105,13 +84,28 @@ fn shown(tally: Tally) -> Summary
     }
 }
 
-// The entry of a centre, worked out from so many states of a run.
-pub fn entry_of(states: &[u64], edition: Edition, count: usize, centre: u64) -> Summary
-    requires { Holds edition states.now count }
-    ensures { result ≡ centre_entry edition centre (records_of (state_width edition) states.now count) }
+// The entry of a centre, worked out from the states in use.
+pub fn entry_of(used: InUse<'_>, centre: u64) -> Summary
+    ensures { result
+        ≡ centre_entry used.entry.edition centre (records_of (state_width used.entry.edition) used.entry.states.now used.entry.count) }
 {
-    let wide = width(edition, Section::States);
-    let its = column_at(edition, Column::Centre);
-    let epoch = column_at(edition, Column::Epoch);
-    shown(gather(states, wide, its, epoch, count, centre))
+    let wide = width(used.edition, Section::States);
+    let its = column_at(used.edition, Column::Centre);
+    let epoch = column_at(used.edition, Column::Epoch);
+    let mut tally = Tally {
+        states: 0,
+        nans: 0,
+        first: u64::MAX,
+        last: 0,
+    };
+    for k in 0..used.count {
+        let at = k * wide;
+        tally = with_state(
+            tally,
+            centre,
+            used.states[at + its],
+            used.states[at + epoch],
+        );
+    }
+    shown(tally)
 }

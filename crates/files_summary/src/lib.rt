@@ -5,6 +5,7 @@ mod changes;
 mod entries;
 pub mod lists;
 mod pieces;
+mod used;
 pub mod words;
 
 pub use changes::Change;

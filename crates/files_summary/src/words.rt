@@ -2,7 +2,7 @@
 ghost use Rattle.std.specs.Prelude.{◌≡◌, ◌*◌, length};
 ghost use Rattle.files_records.specs.Records.{records_of};
 ghost use Rattle.files_formats.specs.Rows.{entry_width};
-ghost use Rattle.files_summary.specs.Entries.{state_width, Holds};
+ghost use Rattle.files_summary.specs.Entries.{state_width};
 ghost use Rattle.files_summary.specs.Changes.{append, withdraw, change_beside, run_beside, settled_by, put_entry};
 ghost use Rattle.files_summary.specs.Changes.{entries_of, as_words, summary_refusal, summary_list};
 
@@ -10,21 +10,18 @@ use crate::changes;
 use crate::changes::{Change, lent_refusal, one_each};
 use crate::entries::{Roster, entry_of};
 use crate::pieces::Piece;
+use crate::used::InUse;
 use bits::Refusal;
-use files_formats::Edition;
 use files_formats::rows::ENTRY_WIDTH;
 
-// The entries of all centres put one after another.
-fn put_entries(list: &mut [u64], states: &[u64], edition: Edition, count: usize, centres: usize)
-    requires { Holds edition states.now count × (length list.old ≡ centres * entry_width) }
-    ensures { list.new ≡ as_words (entries_of edition (records_of (state_width edition) states.now count) centres) }
+// The entries of so many centres put one after another.
+fn put_entries(list: &mut [u64], used: InUse<'_>, centres: usize)
+    requires { length list.old ≡ centres * entry_width }
+    ensures { list.new
+        ≡ as_words (entries_of used.entry.edition (records_of (state_width used.entry.edition) used.entry.states.now used.entry.count) centres) }
 {
     for centre in 0..centres {
-        u64::put(
-            list,
-            centre,
-            entry_of(states, edition, count, centre as u64),
-        );
+        u64::put(list, centre, entry_of(used, centre as u64));
     }
 }
 
@@ -35,13 +32,12 @@ pub fn summary(list: &mut [u64], states: &[u64], roster: Roster) -> Result<(), R
 {
     let listed = one_each(ENTRY_WIDTH, list.len(), roster.centres);
     lent_refusal(states.len(), roster, listed)?;
-    put_entries(
-        list,
+    let used = InUse {
         states,
-        roster.edition,
-        roster.count as usize,
-        roster.centres as usize,
-    );
+        edition: roster.edition,
+        count: roster.count as usize,
+    };
+    put_entries(list, used, roster.centres as usize);
     Ok(())
 }
 

@@ -22,17 +22,17 @@ bounds-state-column_at c =
     let g = appendable _ _ _ _ (sym c.append_refusal.ensures ∙ c.in_ok-append_refusal.was) in
     omega (arith, g.one_record, c.column_at.ensures.0, centre_inside c.args.roster.edition)
 
-pub overflow_add-roster : goal.overflow_add-roster
-overflow_add-roster c =
+pub overflow_add-count : goal.overflow_add-count
+overflow_add-count c =
     let g = appendable _ _ _ _ (sym c.append_refusal.ensures ∙ c.in_ok-append_refusal.was) in
     omega (arith, g.not_full)
 
-pub changed-requires : goal.changed-requires
-changed-requires c =
+pub invariant_of-changed : goal.invariant_of-changed
+invariant_of-changed c =
     let a = c.args in
     let g = appendable _ _ _ _ (sym c.append_refusal.ensures ∙ c.in_ok-append_refusal.was) in
     let room = has_room (length a.states.now) a.roster _ g.lent (a.roster.count + 1) (omega (arith, g.not_full)) in
-    (omega (arith, g.not_full), omega (arith, room, c.put_record.auto.run))
+    record { held = (omega (arith, g.not_full), omega (arith, room, c.put_record.auto.run)) }
 
 pub returns : goal.returns
 returns c =

@@ -22,17 +22,17 @@ centre_at-centre-requires c =
     let g = withdrawable _ _ _ _ (sym c.withdraw_refusal.ensures ∙ c.in_ok-withdraw_refusal.was) in
     has_room (length a.states.now) a.roster _ g.lent (suc a.which) (omega (arith, g.there, g.lent.few))
 
-pub overflow_sub-roster : goal.overflow_sub-roster
-overflow_sub-roster c =
+pub overflow_sub-count : goal.overflow_sub-count
+overflow_sub-count c =
     let g = withdrawable _ _ _ _ (sym c.withdraw_refusal.ensures ∙ c.in_ok-withdraw_refusal.was) in
     omega (arith, g.there)
 
-pub changed-requires : goal.changed-requires
-changed-requires c =
+pub invariant_of-changed : goal.invariant_of-changed
+invariant_of-changed c =
     let a = c.args in
     let g = withdrawable _ _ _ _ (sym c.withdraw_refusal.ensures ∙ c.in_ok-withdraw_refusal.was) in
     let room = has_room (length a.states.now) a.roster _ g.lent (a.roster.count - 1) (omega (arith, g.lent.few)) in
-    (omega (arith, g.lent.few), omega (arith, room, c.move_down.auto.run))
+    record { held = (omega (arith, g.lent.few), omega (arith, room, c.move_down.auto.run)) }
 
 pub returns : goal.returns
 returns c =

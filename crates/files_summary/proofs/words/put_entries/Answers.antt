@@ -23,7 +23,7 @@ next_done edition states centres centre {list} {next} {entry} h inv size e put-i
 pub loop-centre-init : goal.loop-centre-init
 loop-centre-init c =
     let a = c.args in
-    record { size = c.requires.1; same = none_yet a.edition (records_of (state_width a.edition) a.states.now a.count) a.list.now 0 refl }
+    record { size = c.requires; same = none_yet a.used.edition (records_of (state_width a.used.edition) a.used.states.now a.used.count) a.list.now 0 refl }
 
 pub loop-centre-preserved : goal.loop-centre-preserved
 loop-centre-preserved c = next_done _ _ _ _ c.loop-centre-test.true c.loop-centre.invariant c.put.auto.list c.entry_of.ensures c.put.ensures

@@ -13,4 +13,4 @@ pub record Done (edition : Edition) (states : List (List ℕ)) (centres : ℕ) (
   pub same : take (centre * entry_width) list ≡ as_words (entries_of edition states centre)
 
 abbrev pub invariant-loop-centre : goal.invariant-loop-centre
-invariant-loop-centre l = Done l.edition (records_of (state_width l.edition) l.states l.count) l.centres l.list l.centre
+invariant-loop-centre l = Done l.used.edition (records_of (state_width l.used.edition) l.used.states.now l.used.count) l.centres l.list l.centre

@@ -15,13 +15,17 @@ module _ (run : List ℕ) (roster : Roster) (list : List ℕ) where
   unfolding summary_list
   by_refusal e = ap (λ (r : Result ⊤ Refusal). if_made r list (as_words (entries_in roster run))) (sym e)
 
+pub invariant_of-used : goal.invariant_of-used
+invariant_of-used c =
+    let a = c.args in
+    let lent = lent_well (length a.states.now) a.roster c.one_each-listed.result (sym c.lent_refusal.ensures ∙ c.in_ok-lent_refusal.was) in
+    record { held = (omega (arith, lent.few), has_room (length a.states.now) a.roster c.one_each-listed.result lent a.roster.count (omega (arith, lent.few))) }
+
 pub put_entries-requires : goal.put_entries-requires
 put_entries-requires c =
     let a = c.args in
-    let lent = lent_well (length a.states.now) a.roster c.one_each-listed.result (sym c.lent_refusal.ensures ∙ c.in_ok-lent_refusal.was) in (
-      (omega (arith, lent.few), has_room (length a.states.now) a.roster c.one_each-listed.result lent a.roster.count (omega (arith, lent.few))),
-      eqb-true (length a.list.now) (a.roster.centres * entry_width) (sym c.one_each-listed.ensures ∙ lent.is_listed),
-    )
+    let lent = lent_well (length a.states.now) a.roster c.one_each-listed.result (sym c.lent_refusal.ensures ∙ c.in_ok-lent_refusal.was) in
+    eqb-true (length a.list.now) (a.roster.centres * entry_width) (sym c.one_each-listed.ensures ∙ lent.is_listed)
 
 pub returns-in_err-lent_refusal-clause-list : goal.returns-in_err-lent_refusal-clause-list
 returns-in_err-lent_refusal-clause-list c =
