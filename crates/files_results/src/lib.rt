@@ -1,9 +1,11 @@
 // Layer 5: from an element file to its result file.
 #![tactic(auto)]
 
-ghost use Rattle.std.specs.Prelude.{◌≡◌, ◌<◌, ◌≤◌, length};
+ghost use Rattle.std.specs.Prelude.{◌≡◌, ◌<◌, ◌≤◌, length, leb};
+ghost use Rattle.bits.specs.declared.refusal.Refusal.TheVariants.{RoomTooShort};
 ghost use Rattle.bits.specs.Refusal.{number_of};
 ghost use Rattle.files_words.specs.Bytes.{as_bytes, put};
+ghost use Rattle.files_checks.specs.Checks.{need};
 ghost use Rattle.files_formats.specs.Rows.{result_place};
 ghost use Rattle.files_results.specs.Results.{sections_words, refused_file, result_file, outcome_in, outcome_of, with_row, with_rows};
 
@@ -52,6 +54,13 @@ fn put_rows(file: ElementFile<'_>, room: &mut [u8])
     }
 }
 
+// A room for so many bytes, or 26 with them.
+fn check_room(room: &[u8], size: usize) -> Result<(), Fault>
+    ensures { result ≡ need (leb size (length room.now)) RoomTooShort size }
+{
+    need(size <= room.len(), Refusal::RoomTooShort, size)
+}
+
 // The result file of an accepted file, and its size in bytes.
 fn write_accepted(file: ElementFile<'_>, room: &mut [u8]) -> Result<usize, Fault>
     ensures outcome { result ≡ outcome_in (as_bytes (sections_words file.entry.bytes.now file.entry.shape)) room.old }
@@ -59,7 +68,7 @@ fn write_accepted(file: ElementFile<'_>, room: &mut [u8]) -> Result<usize, Fault
 {
     let n = file.shape.requests;
     let size = row_place(n);
-    need(size <= room.len(), Refusal::RoomTooShort, size)?;
+    check_room(room, size)?;
     put_words(room, 0, &[RESULT_EDITION, n as u64]);
     put_rows(file, room);
     Ok(size)
@@ -71,7 +80,7 @@ fn write_refused(refusal: Refusal, room: &mut [u8]) -> Result<usize, Fault>
     ensures room { room.new ≡ put room.old 0 (as_bytes (refused_file (number_of refusal))) }
 {
     let size = 8 * REFUSED_WORDS;
-    need(size <= room.len(), Refusal::RoomTooShort, size)?;
+    check_room(room, size)?;
     put_words(room, 0, &[RESULT_EDITION, 0, u64::from(refusal)]);
     Ok(size)
 }

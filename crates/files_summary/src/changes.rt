@@ -30,13 +30,7 @@ fn refuse(holds: bool, refusal: Refusal) -> Result<(), Refusal>
 pub fn one_each(each: usize, long: usize, centres: u64) -> bool
     ensures { result ≡ one_each each long centres }
 {
-    if each == 0 {
-        return long == 0;
-    }
-    if long % each != 0 {
-        return false;
-    }
-    (long / each) as u64 == centres
+    centres.checked_mul(each as u64) == Some(long as u64)
 }
 
 // 27, then 41: by the words of the run, the count of states, and whether the list has one entry for each centre.

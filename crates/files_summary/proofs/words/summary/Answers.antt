@@ -11,9 +11,12 @@ use Rattle.files_summary.proofs.words.summary.Goals as goal
 
 -- What the two ways out show of a list, by the refusal.
 module _ (run : List ℕ) (roster : Roster) (list : List ℕ) where
-  by_refusal : {r : Result ⊤ Refusal} → summary_refusal run roster list ≡ r → if_made r list (as_words (entries_in roster run)) ≡ summary_list run roster list
+  abbrev afresh : List ℕ
+  afresh = as_words (entries_in roster run)
+
+  by_refusal : {r : Result ⊤ Refusal} → summary_refusal run roster list ≡ r → if_made r list afresh ≡ summary_list run roster list
   unfolding summary_list
-  by_refusal e = ap (λ (r : Result ⊤ Refusal). if_made r list (as_words (entries_in roster run))) (sym e)
+  by_refusal e = ap (λ (r : Result ⊤ Refusal). if_made r list afresh) (sym e)
 
 pub invariant_of-used : goal.invariant_of-used
 invariant_of-used c =
