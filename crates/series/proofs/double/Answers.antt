@@ -1,4 +1,4 @@
-use mathlib.Core.Path.{◌≡◌, refl, sym, ap, ◌∙◌}
+use mathlib.Core.Path.{◌≡◌, refl, sym, ◌∙◌}
 use Prim.Native.Nat.{ℕ, suc, ◌+◌, ◌-◌}
 use native.Mathlib.Omega.{arith}
 use lib.Ieee.{Float}
@@ -13,9 +13,6 @@ turn left c0 c1 = refl
 done : (c0 c1 : Float) → doublings 0 c0 c1 ≡ record { c0 = c0; c1 = c1 }
 unfolding doublings
 done c0 c1 = refl
-
-pub loop-init : goal.loop-init
-loop-init c = let e : c.args.m - 0 ≡ c.args.m = omega arith in ap (λ (n : ℕ). doublings n c.args.c0 c.args.c1) e
 
 pub loop-preserved : goal.loop-preserved
 loop-preserved c =
