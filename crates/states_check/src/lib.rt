@@ -33,5 +33,8 @@ pub fn accepts(given: [u64; 8], anomaly: u64, nine: [u64; 9]) -> bool
     ensures { result ≡ accepts given anomaly nine }
 {
     let seeking = Seeking::Given(Anomaly(double_of(anomaly)));
-    reach(given, seeking).is_ok_and(|reached| accepts_at(reached.arc, anomaly, nine))
+    let Ok(reached) = reach(given, seeking) else {
+        return false;
+    };
+    accepts_at(reached.arc, anomaly, nine)
 }
