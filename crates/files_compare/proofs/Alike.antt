@@ -9,6 +9,7 @@ use borrow.Author.Tests.{eq-eqb, ne_eqb, eqb-true, eqb-false}
 use lib.Dec.{eqb}
 use lib.Ieee.{binary64, of_bits}
 use Rattle.std.specs.Prelude.{Option}
+use Rattle.std.proofs.Math.Bool.{and_comm}
 use Rattle.bits.specs.Choice.{pick}
 use Rattle.bits.specs.Arithmetic.{is_finite}
 use Rattle.files_formats.specs.Rows.{result_refusal, result_figure, result_figures}
@@ -76,16 +77,10 @@ rows_exchanged v w = rw (eqb_sym w v) (by (eqb v 0) (eqb w 0) (eqb v w))
     by false false true = refl
     by false false false = refl
 
-and_sym : (a b : Bool) → a && b ≡ b && a
-and_sym true true = refl
-and_sym true false = refl
-and_sym false true = refl
-and_sym false false = refl
-
 figure_exchanged : (v w : ℕ) → figure_of w v ≡ figure_of v w
 unfolding figure_of
 figure_exchanged v w =
-    λ i. pick (and_sym (is_finite (of_bits binary64 w)) (is_finite (of_bits binary64 v)) i) (figure.Distance (symmetric w v i)) (pick (eqb_sym w v i) figure.EqualBits figure.UnequalBits)
+    λ i. pick (and_comm (is_finite (of_bits binary64 w)) (is_finite (of_bits binary64 v)) i) (figure.Distance (symmetric w v i)) (pick (eqb_sym w v i) figure.EqualBits figure.UnequalBits)
 
 in_exchanged : (r : RowKind) (v w : ℕ) → figure_in (exchanged r) w v ≡ figure_in r v w
 in_exchanged kind.Answered v w = figure_exchanged v w

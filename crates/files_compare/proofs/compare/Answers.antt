@@ -84,8 +84,8 @@ returns-in_err-need c =
 
 pub overflow_mul-words : goal.overflow_mul-words
 overflow_mul-words c =
-    let l = passes (Some side.Left) _ (sym c.check_side.ensures ∙ c.in_ok-check_side.was) in
-    omega (arith, few _ l c.word_at-count.ensures)
+    let l = passes (Some side.Left) (results_check c.args.left.now) (sym c.check_side.ensures ∙ c.in_ok-check_side.was) in
+    omega (arith, few c.args.left.now l c.word_at-count.ensures)
 
 pub returns-in_err-need-2 : goal.returns-in_err-need-2
 returns-in_err-need-2 c =
