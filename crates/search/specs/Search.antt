@@ -14,7 +14,7 @@ use Rattle.search_points.specs.Trial.{anomaly_at, trial_at}
 use Rattle.search_rule.specs.declared.pair.Pair.{Pair}
 use Rattle.search_rule.specs.declared.pair.Next.{Next}
 use Rattle.search_rule.specs.declared.pair.Next.TheVariants.{Between, Exact, Unreadable, AllShort}
-use Rattle.search_rule.specs.Rule.{Proposal, History, outward_part, inward, history, counted}
+use Rattle.search_rule.specs.Rule.{Proposal, History, outward_part, round, inward, history, counted}
 use Rattle.search_rule.specs.Nearer.{Choosing, nearer_end}
 use Rattle.search_proposals.specs.Proposals.{three_proposals}
 use Rattle.search.specs.declared.figures.Found.{Found}
@@ -40,6 +40,9 @@ history_at i tau first = history_by (three_proposals i tau) i tau first
 -- Its parts: outward; and inward from a pair, where document 01's proposals do not depend on what was tried before.
 abbrev pub outward_at : Initial → Seconds → (first : ℕ) → History
 outward_at i tau first = outward_part (trial_at i tau) first (neg tau.0)
+
+abbrev pub round_at : Initial → Seconds → Pair → History
+round_at i tau s = round (trial_at i tau) (three_proposals i tau) 0 [] s
 
 abbrev pub inward_at : Initial → Seconds → Pair → History
 inward_at i tau s = inward (trial_at i tau) (three_proposals i tau) 63 0 [] s

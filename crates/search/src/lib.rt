@@ -14,7 +14,7 @@ use series::{Anomaly, Seconds};
 use std::ops::ControlFlow::{Break, Continue};
 
 pub mod figures;
-mod turn;
+mod rounds;
 
 pub use figures::{Found, Refused};
 
@@ -60,21 +60,18 @@ fn outward(passage: Passage, first: u64) -> Next
     Next::AllShort(41)
 }
 
-// Inward: one point a turn, while the two places differ by more than 1. A proposed point is followed by the halving place, which ends the round.
+// Inward: at most 63 rounds, while the two places differ by more than 1.
 fn inward(passage: Passage, start: Pair, used: u64) -> Next
     requires { used < 100 }
     ensures { result ≡ counted used (inward_at passage.initial passage.tau start) }
 {
     let mut pair = start;
     let mut points = used;
-    let mut left: u64 = 63;
-    let mut offered: Option<u64> = None;
-    while 0 < left {
+    for _ in 0..63u64 {
         if !pair.is_wide() {
             return Next::Between(pair, points);
         }
-        offered = turn::offer(passage, pair, offered);
-        let next = turn::tried(passage, pair, offered, points);
+        let next = rounds::round(passage, pair, points);
         match next {
             Next::Between(closer, used) => {
                 pair = closer;
@@ -84,7 +81,6 @@ fn inward(passage: Passage, start: Pair, used: u64) -> Next
                 return next;
             }
         }
-        left = turn::rounds_after(left, offered);
     }
     Next::Between(pair, points)
 }

@@ -53,10 +53,8 @@ module _ (s : Pair) where
     unfolding by_ends
     ends_fits = fits_pick (eq (s.past.error ⊖ s.short.error) n0) None _ tt (offered_fits tau _)
 
-    pub offer_fits : (b : Bool) → Fits s (pick b (proposed i tau s) None)
+    pub proposed_fits : Fits s (proposed i tau s)
     unfolding proposed
-    offer_fits b =
-        fits_pick b (proposed i tau s) None
-        (fits_or (by_radius i tau s) (option_or (by_interval tau s) (by_ends tau s)) radius_fits
-        (fits_or (by_interval tau s) (by_ends tau s) interval_fits ends_fits))
-        tt
+    proposed_fits =
+        fits_or (by_radius i tau s) (option_or (by_interval tau s) (by_ends tau s)) radius_fits
+        (fits_or (by_interval tau s) (by_ends tau s) interval_fits ends_fits)

@@ -1,31 +1,26 @@
 -- What the code's loops cite: a turn of the history at a time. Where a proposal looks at the pair alone, what is left of the history does not depend
 -- on the points tried before, nor on the round's number.
-use Prim.Native.Nat.{ℕ, zero, suc, ◌+◌, ◌-◌, ◌*◌, ◌^◌, ◌≤◌, ◌<◌}
+use Prim.Native.Nat.{ℕ, zero, suc, ◌+◌, ◌-◌, ◌^◌, ◌≤◌, ◌<◌}
 use mathlib.Core.Path.{◌≡◌, refl, ap, sym, ◌∙◌}
-use mathlib.Core.Bool.{Bool, true, false}
+use mathlib.Core.Bool.{true, false}
 use mathlib.Core.List.{List, [], ◌∷◌, ◌++◌}
 use native.Mathlib.Omega.{arith}
-use borrow.Author.Tests.{ltb-true}
-use Rattle.std.specs.Prelude.{Option, None, Some, IfSome, is_none, unwrap_or}
+use Rattle.std.specs.Prelude.{Option, None, Some, IfSome}
 use Rattle.std.specs.declared.ops.ControlFlow.TheVariants.{Continue, Break}
 use Rattle.bits.specs.Choice.{pick}
 use Rattle.search_rule.specs.declared.pair.End.{End}
 use Rattle.search_rule.specs.declared.pair.Pair.{Pair}
 use Rattle.search_rule.specs.declared.pair.Next.{Next}
 use Rattle.search_rule.specs.declared.pair.Next.TheVariants as next
-use Rattle.search_rule.specs.Rule.{Point, Trials, Proposal, between, exact, unreadable, all_short, History, tries, ends, Sequel, onward, Outward, on}
-use Rattle.search_rule.specs.Rule.{stop, outward_step, going_on, outward, attempt, gap, is_wide, halfway, halving, is_inside, round_from, round, inward}
-use Rattle.search_rule.specs.Rule.{counted, step_of}
+use Rattle.search_rule.specs.Rule.{Point, Trials, Proposal, between, exact, unreadable, all_short, History, tries, ends, points_in, Sequel, onward, Outward, on}
+use Rattle.search_rule.specs.Rule.{stop, outward_step, going_on, outward, attempt, is_wide, halving, is_inside, round_from, round, inward}
+use Rattle.search_rule.specs.Rule.{counted, tried_first, step_of}
 use Rattle.search_rule.proofs.Counts.{points, used, used_is}
-use Rattle.search_rule.proofs.Rounds.{inside_is, onward_same}
+use Rattle.search_rule.proofs.Rounds.{onward_same}
 
 -- A place that is proposed lies strictly between.
 abbrev pub Fits : Pair → (proposed : Option ℕ) → Type 0
 Fits s proposed = IfSome proposed (λ p. is_inside s p ≡ true)
-
--- The place of a turn: the one that is offered in it, or the halving place.
-abbrev pub turn_place : Pair → (offered : Option ℕ) → ℕ
-turn_place s offered = unwrap_or offered (halfway s)
 
 -- After a part as the code keeps it: the next part, where it ended with a pair.
 abbrev pub after : Next → (Pair → History) → Next
@@ -70,10 +65,6 @@ handed_on (next.Exact p n) f h = refl
 handed_on (next.Unreadable n) f h = refl
 handed_on (next.AllShort n) f h = refl
 
--- The turns left: two a round, and one less where the halving place is next.
-abbrev pub turns_left : (proposing : Bool) (left : ℕ) → ℕ
-turns_left b left = 2 * left + pick b 1 0
-
 module _ (ev : Trials) where
   -- ---- outward
   pub outward_turn : (k n place : ℕ) (short : End) → 0 < k
@@ -95,7 +86,7 @@ module _ (ev : Trials) where
     pair_only round tried s = propose s
 
     -- What is left to do from a pair.
-    abbrev rest : ℕ → Pair → History
+    abbrev pub rest : ℕ → Pair → History
     rest left s = inward ev pair_only left 0 [] s
 
     round_same : (k : ℕ) (tried : List Point) (s : Pair) → round ev pair_only k tried s ≡ round ev pair_only 0 [] s
@@ -117,7 +108,7 @@ module _ (ev : Trials) where
         (λ s' _. inward_same left (k + 1) _ s' ∙ sym (inward_same left (0 + 1) _ s'))
         ∙ ap (λ (h : History). onward [] h (inward ev pair_only left (0 + 1))) (round_same k tried s))
 
-    inward_turn : (left n : ℕ) (s : Pair) → 0 < left → is_wide s ≡ true
+    pub inward_turn : (left n : ℕ) (s : Pair) → 0 < left → is_wide s ≡ true
         → counted n (rest left s) ≡ after (counted n (round ev pair_only 0 [] s)) (rest (left - 1))
     unfolding inward
     inward_turn zero n s h w = absurd (omega arith)
@@ -136,70 +127,14 @@ module _ (ev : Trials) where
     inward_none zero n s h = refl
     inward_none (suc left) n s h = absurd (omega arith)
 
-    -- ---- a point at a time: before a proposal, or before the halving place that follows a proposed point
-    abbrev pub stage : (proposing : Bool) (left : ℕ) → Pair → History
-    stage true left s = rest left s
-    stage false left s = onward [] (halving ev s) (λ _. rest (left - 1))
+  -- ---- a round as the code takes it: a proposed point that fits, and then the halving place
+  pub round_turn : (n : ℕ) (s : Pair) (proposed : Option ℕ) → Fits s proposed → {before : Next}
+      → before ≡ counted n (tried_first ev s proposed) → after before (halving ev) ≡ counted n (round_from ev [] s proposed)
+  unfolding counted
+  round_turn n s None f e = ap (λ (y : Next). after y (halving ev)) e
+  round_turn n s (Some p) f e = rw f (followed n [] (attempt ev s p) (λ _. halving ev) (halving ev) (λ _ _. refl) e)
 
-    pub stage_narrow : (b : Bool) (left n : ℕ) (s : Pair) → is_wide s ≡ false → next.Between s n ≡ counted n (stage b left s)
-    unfolding halving onward
-    stage_narrow true left n s w = inward_narrow left n s w
-    stage_narrow false left n s w = rw w (inward_narrow (left - 1) n s w)
-
-    -- No round is left only before a proposal: the halving place ends its round.
-    pub stage_none : (b : Bool) (left n : ℕ) (s : Pair) → left ≤ 0 → 0 < turns_left b left → next.Between s n ≡ counted n (stage b left s)
-    stage_none true left n s h g = inward_none left n s h
-    stage_none false left n s h g = absurd (omega arith)
-
-    after_after : (x : Next) (f g : Pair → History) → after (after x f) g ≡ after x (λ s. onward [] (f s) (λ _. g))
-    after_after (next.Between s n) f g = sym (counted_onward n [] (f s) (λ _. g) g (λ _ _. refl))
-    after_after (next.Exact p n) f g = refl
-    after_after (next.Unreadable n) f g = refl
-    after_after (next.AllShort n) f g = refl
-
-    module _ (left n : ℕ) (s : Pair) (h : 0 < left) (w : is_wide s ≡ true) where
-      -- Without a proposal a round is its halving place.
-      unproposed : propose s ≡ None → counted n (rest left s) ≡ after (counted n (attempt ev s (halfway s))) (rest (left - 1))
-      unfolding round halving
-      unproposed e =
-          inward_turn left n s h w
-          ∙ ap (λ (o : Option ℕ). after (counted n (round_from ev [] s o)) (rest (left - 1))) e
-          ∙ rw w
-
-      -- A proposal strictly between is tried, and then the halving place.
-      proposing_turn : (p : ℕ) → propose s ≡ Some p → is_inside s p ≡ true → counted n (rest left s) ≡ after (counted n (attempt ev s p)) (stage false left)
-      unfolding round
-      proposing_turn p e i =
-          inward_turn left n s h w
-          ∙ ap (λ (o : Option ℕ). after (counted n (round_from ev [] s o)) (rest (left - 1))) e
-          ∙ rw i (ap (λ (y : Next). after y (rest (left - 1))) (counted_onward n [] (attempt ev s p) (λ _. halving ev) (halving ev) (λ _ _. refl)))
-          ∙ after_after (counted n (attempt ev s p)) (halving ev) (rest (left - 1))
-
-      halving_turn : counted n (stage false left s) ≡ after (counted n (attempt ev s (halfway s))) (rest (left - 1))
-      unfolding halving
-      halving_turn = rw w (counted_onward n [] (attempt ev s (halfway s)) (λ _. rest (left - 1)) (rest (left - 1)) (λ _ _. refl))
-
-      -- A turn, by what is offered in it: a proposed place, or else the halving place is tried.
-      pub turn : (b : Bool) (o : Option ℕ) → o ≡ pick b (propose s) None → Fits s o
-          → counted n (stage b left s) ≡ after (counted n (attempt ev s (turn_place s o))) (stage (is_none o) (pick (is_none o) (left - 1) left))
-      turn true None e f = unproposed (sym e)
-      turn true (Some p) e f = proposing_turn p (sym e) f
-      turn false None e f = halving_turn
-      turn false (Some p) e f = cc
-
--- The place of a turn is above 0.
-pub place_above : (s : Pair) (o : Option ℕ) → is_wide s ≡ true → Fits s o → 0 < turn_place s o
-place_above s None w f = omega (arith, ltb-true 1 (gap s) w)
-place_above s (Some p) w f = omega (arith, (inside_is s p f).0)
-
--- ---- How many turns are left after a turn.
-module _ (left : ℕ) (some : 0 < left) where
-  pub turns_some : (o : Option ℕ) → 0 < turns_left (is_none o) (pick (is_none o) (left - 1) left)
-  turns_some None = omega arith
-  turns_some (Some p) = omega arith
-
-  -- Only a turn that may propose offers a place.
-  pub turns_fewer : (b : Bool) {o : Option ℕ} (q : Option ℕ) → o ≡ pick b q None → turns_left (is_none o) (pick (is_none o) (left - 1) left) < turns_left b left
-  turns_fewer b {o = None} q e = omega arith
-  turns_fewer true {o = Some p} q e = omega arith
-  turns_fewer false {o = Some p} q e = cc
+  pub first_points : (s : Pair) (proposed : Option ℕ) → points (tried_first ev s proposed) ≤ 1
+  unfolding points_in
+  first_points s None = omega arith
+  first_points s (Some p) = omega arith

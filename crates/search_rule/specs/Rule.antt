@@ -158,6 +158,11 @@ unfoldable pub counted : ℕ → History → Next
 counted n (tries p h) = counted (n + 1) h
 counted n (ends e) = next_of n e
 
+-- What a round begins with: the proposed point, where there is one.
+abbrev pub tried_first : Trials → Pair → (proposed : Option ℕ) → History
+tried_first ev s None = ends (between s)
+tried_first ev s (Some p) = attempt ev s p
+
 abbrev pub step_of : ℕ → Outward → ControlFlow Next End
 step_of n (on short) = Continue short
 step_of n (stop e) = Break (next_of n e)
