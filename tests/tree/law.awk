@@ -5,7 +5,8 @@
 BEGIN { proofs = "Rattle." crate ".proofs." path; contract = "Rattle." crate ".specs.contracts." path }
 /^ *module / { bad = 1 }
 /^((abbrev|unfoldable|opaque|data|record|pub) )*OneAnswer(Of)? / { bad = 1 }
-/^ *(pub |open |unfoldable )*use .*OneAnswer/ && !/^use Rattle\.bits\.specs\.OneAnswer\.[{]OneAnswer(, OneAnswerOf)?[}]$/ { bad = 1 }
+/^ *(pub |open |unfoldable )*use .*OneAnswer/ && !/^use Rattle\.bits\.specs\.OneAnswer\.[{]OneAnswer(, OneAnswerOf)?[}]$/ &&
+    !/^use Rattle\.[a-z_0-9]+\.proofs\.OneAnswers as [a-z]+$/ { bad = 1 }
 $1 == "use" && $3 == "as" {
     if ($4 in named) bad = 1
     named[$4] = $2

@@ -16,7 +16,7 @@ use Rattle.files_summary.specs.Changes.{change_of, run_of, summary_list}
 use Rattle.files_check.specs.RowsFile.{rows_check, each_of, judged_of, verdicts_after}
 use Rattle.files_differences.specs.Told.{row_kind_of, figure_of, comparison_words}
 use Rattle.files_compare.specs.Compare.{figures_told, row_at, rows_told, largest_in_row, largest_of, comparison_of, run_after}
-use Rattle.kelubashi.specs.Face.{reading_words, writing_words}
+use Rattle.kelubashi.specs.Face.{reading_words}
 use Rattle.kelubashi.proofs.Calls.{Places, Root, Interval, Read, Write, Results, Summary, Append, Withdraw, Check, Compare}
 
 -- ---- Words, and what the lent runs hold before a call.
@@ -134,7 +134,7 @@ pub writes : (κs : Lfts 5) (at : Places) →
     × Write κs at (0 ∷ []) p10_state (1 ∷ one ∷ []) (sevens 120) (sevens 2) 24 (sevens 120) (24 ∷ 104 ∷ [])
     × Write κs at (0 ∷ []) p10_state (0 ∷ one ∷ []) (sevens 119) (sevens 2) 26 (sevens 119) (26 ∷ 120 ∷ [])
     × Write κs at (0 ∷ []) p10_state (0 ∷ one ∷ []) (sevens 120) (sevens 3) 60 (sevens 120) (sevens 3)
-unfolding writing_words writing_of room_of as_bytes
+unfolding writing_of room_of as_bytes
 writes κs at = (two_runs, two_runs, two_runs, two_runs, two_runs, two_runs, two_runs, two_runs)
 
 -- ---- Results: of a file without requests, and of a refused one, "24 bytes: 1, 0, and the number of the refusal"; 26 with the bytes needed.

@@ -1,17 +1,34 @@
-// The words of what the reader and the writer answer.
+// The words of what the calls below answer.
 ghost use Rattle.std.specs.Prelude.{◌≡◌};
-ghost use Rattle.kelubashi.specs.Face.{reading_words, writing_words};
+ghost use Rattle.bits.specs.Refusal.{number_in as refusal_in};
+ghost use Rattle.kelubashi.specs.Face.{fault_number, reading_words, sized_words, change_words};
 
-use files::Writing;
-use files_formats::Section;
-use files_reader::Reading;
+use bits::Refusal;
+use files_checks::Fault;
+use files_formats::{Section, Shape};
+use files_summary::Change;
+
+// The number of a refusal, or 0 where there is none.
+pub fn number_in<T: Drop>(answer: Result<T, Refusal>) -> u64
+    ensures { result ≡ refusal_in answer }
+{
+    answer.err().map_or(0, u64::from)
+}
+
+// The same where a refusal has a place.
+pub fn fault_number<T: Drop>(answer: Result<T, Fault>) -> u64
+    ensures { result ≡ fault_number answer }
+{
+    number_in(answer.map_err(|fault| fault.refusal))
+}
 
 // The eight words of what the reader answers: number, place, then the place and the count of centres, states and requests.
-pub fn reading_words(reading: Reading) -> [u64; 8]
+#[tactic(auto, unfolding(crate::specs::Face::reading_words))]
+pub fn reading_words(reading: Result<Shape, Fault>) -> [u64; 8]
     ensures { result ≡ reading_words reading }
 {
     match reading {
-        Reading::Sections(shape) => [
+        Ok(shape) => [
             0,
             0,
             shape.place(Section::Centres) as u64,
@@ -21,16 +38,26 @@ pub fn reading_words(reading: Reading) -> [u64; 8]
             shape.place(Section::Requests) as u64,
             shape.requests as u64,
         ],
-        Reading::Refused { number, place } => [number, place as u64, 0, 0, 0, 0, 0, 0],
+        Err(fault) => [fault.refusal.into(), fault.place as u64, 0, 0, 0, 0, 0, 0],
     }
 }
 
-// The two words of what the writer answers: a number with its place, or 0 with the length.
-pub fn writing_words(writing: Writing) -> [u64; 2]
-    ensures { result ≡ writing_words writing }
+// The two words of what writes to a room or a run: a number with its place, or 0 with the size of what is written.
+pub fn sized_words(sized: Result<usize, Fault>) -> [u64; 2]
+    ensures { result ≡ sized_words sized }
 {
-    match writing {
-        Writing::Length(length) => [0, length as u64],
-        Writing::Refused { number, place } => [number, place as u64],
+    match sized {
+        Ok(size) => [0, size as u64],
+        Err(fault) => [fault.refusal.into(), fault.place as u64],
+    }
+}
+
+// The two words of a change of the states: a number with the states that were in use, or 0 with those in use afterwards.
+pub fn change_words(change: Result<Change, Refusal>, count: u64) -> [u64; 2]
+    ensures { result ≡ change_words count change }
+{
+    match change {
+        Ok(change) => [0, change.count],
+        Err(refusal) => [refusal.into(), count],
     }
 }

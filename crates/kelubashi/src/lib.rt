@@ -2,9 +2,12 @@
 // no header can shift a field; the names carry the interface's edition, so a header of another edition does not link. `kelubashi_c` exports each of these.
 #![tactic(auto)]
 
+mod answers;
+
 ghost use Rattle.std.specs.Prelude.{◌≡◌, [], ◌∷◌, length};
+ghost use Rattle.bits.specs.Refusal.{number_in as refusal_in};
 ghost use Rattle.bits.specs.Root.{root_refusal_of, root_word_of};
-ghost use Rattle.states.specs.Call.{orbit_words, answer_words, propagate_of};
+ghost use Rattle.states.specs.Call.{orbit_words, answer_words, refusal_of, propagate_of};
 ghost use Rattle.states.specs.WithPartials.{partials_of, lent_of};
 ghost use Rattle.files_words.specs.Bytes.{put};
 ghost use Rattle.files_results.specs.Requests.{tau_of};
@@ -18,6 +21,7 @@ ghost use Rattle.kelubashi.specs.Face.{
   returned,
   answer_after,
   lent_behind,
+  fault_number,
   read_words,
   results_words,
   number_in,
@@ -31,10 +35,10 @@ ghost use Rattle.kelubashi.specs.Face.{
   judged_words,
 };
 
+use answers::{change_words, fault_number, number_in, reading_words, sized_words};
+use bits::Refusal;
 use files_formats::Edition;
 use files_summary::Roster;
-
-mod answers;
 
 // The states in use of a run, which are edition 1's, and the centres beside them.
 fn roster_of(count: u64, centres: u64) -> Roster
@@ -48,19 +52,21 @@ fn roster_of(count: u64, centres: u64) -> Roster
 }
 
 // The square root of the double of a word, to an answer run of one word.
+#[tactic(auto, using(bits::proofs::Computed::answered))]
 pub fn kelubashi1_root(word: u64, answer: &mut [u64]) -> u64
     ensures number { result ≡ returned 1 answer.old (root_refusal_of word) }
     ensures answer { answer.new ≡ answer_after 1 answer.old (root_word_of word ∷ []) }
 {
     if answer.len() != 1 {
-        return 60;
+        return Refusal::AnswerLength.into();
     }
-    let r = bits::root::root_of(word);
-    bits::copy_words(&[r.word], answer);
-    r.refusal
+    let root = bits::root::root_of(word);
+    answer.copy_from_slice(&[root.unwrap_or(0)]);
+    number_in(root)
 }
 
 // Position, velocity and accelerations of eight words, to an answer run of fifteen words.
+#[tactic(auto, unfolding(states::specs::Call::answer_words))]
 pub fn kelubashi1_propagate(
     mu: u64,
     x: u64,
@@ -72,19 +78,19 @@ pub fn kelubashi1_propagate(
     tau: u64,
     answer: &mut [u64],
 ) -> u64
-    ensures number { result ≡ returned 15 answer.old (propagate_of (orbit_words mu x y z vx vy vz tau)).refusal }
+    ensures number { result ≡ returned 15 answer.old (refusal_of (propagate_of (orbit_words mu x y z vx vy vz tau))) }
     ensures answer { answer.new ≡ answer_after 15 answer.old (answer_words (propagate_of (orbit_words mu x y z vx vy vz tau))) }
 {
     if answer.len() != 15 {
-        return 60;
+        return Refusal::AnswerLength.into();
     }
-    let a = states::propagate([mu, x, y, z, vx, vy, vz, tau]);
-    let words = states::words_of(a);
-    bits::copy_words(&words, answer);
-    a.refusal
+    let words = states::words_of(states::propagate([mu, x, y, z, vx, vy, vz, tau]));
+    answer.copy_from_slice(&words);
+    words[0]
 }
 
 // The same, with the 36 partials to a lent run.
+#[tactic(auto, unfolding(states::specs::Call::answer_words))]
 pub fn kelubashi1_partials(
     mu: u64,
     x: u64,
@@ -97,19 +103,19 @@ pub fn kelubashi1_partials(
     answer: &mut [u64],
     run: &mut [u64],
 ) -> u64
-    ensures number { result ≡ returned 15 answer.old (partials_of (orbit_words mu x y z vx vy vz tau) run.old).refusal }
+    ensures number { result ≡ returned 15 answer.old (refusal_of (partials_of (orbit_words mu x y z vx vy vz tau) run.old)) }
     ensures answer { answer.new
         ≡ answer_after 15 answer.old (answer_words (partials_of (orbit_words mu x y z vx vy vz tau) run.old)) }
     ensures lent { run.new
         ≡ lent_behind 15 answer.old run.old (lent_of (orbit_words mu x y z vx vy vz tau) run.old) }
 {
     if answer.len() != 15 {
-        return 60;
+        return Refusal::AnswerLength.into();
     }
-    let a = states::propagate_with_partials([mu, x, y, z, vx, vy, vz, tau], run);
-    let words = states::words_of(a);
-    bits::copy_words(&words, answer);
-    a.refusal
+    let answered = states::propagate_with_partials([mu, x, y, z, vx, vy, vz, tau], run);
+    let words = states::words_of(answered);
+    answer.copy_from_slice(&words);
+    words[0]
 }
 
 // Where the sections of an element file stand, to an answer run of eight words.
@@ -118,10 +124,10 @@ pub fn kelubashi1_read(file: &[u8], answer: &mut [u64]) -> u64
     ensures answer { answer.new ≡ answer_after 8 answer.old (read_words file.now) }
 {
     if answer.len() != 8 {
-        return 60;
+        return Refusal::AnswerLength.into();
     }
-    let words = answers::reading_words(files_reader::read_file(file));
-    bits::copy_words(&words, answer);
+    let words = reading_words(files_reader::read_file(file));
+    answer.copy_from_slice(&words);
     words[0]
 }
 
@@ -140,16 +146,11 @@ pub fn kelubashi1_write(
         ≡ write_room answer.old centres.now states.now requests.now room.old }
 {
     if answer.len() != 2 {
-        return 60;
+        return Refusal::AnswerLength.into();
     }
-    let words = answers::writing_words(files::write_file(
-        Edition::One,
-        centres,
-        states,
-        requests,
-        room,
-    ));
-    bits::copy_words(&words, answer);
+    let written = files::write_file(Edition::One, centres, states, requests, room);
+    let words = sized_words(written);
+    answer.copy_from_slice(&words);
     words[0]
 }
 
@@ -160,25 +161,25 @@ pub fn kelubashi1_interval(time: u64, epoch: u64, answer: &mut [u64]) -> u64
 {
     let words = [files_results::tau_of(time, epoch)];
     if answer.len() != words.len() {
-        return 60;
+        return Refusal::AnswerLength.into();
     }
-    bits::copy_words(&words, answer);
+    answer.copy_from_slice(&words);
     0
 }
 
 // The result file of an element file, to a room, and an answer run of two words.
 pub fn kelubashi1_results(file: &[u8], room: &mut [u8], answer: &mut [u64]) -> u64
-    ensures number { result ≡ returned 2 answer.old (outcome_of file.now room.old).number }
+    ensures number { result ≡ returned 2 answer.old (fault_number (outcome_of file.now room.old)) }
     ensures answer { answer.new ≡ answer_after 2 answer.old (results_words file.now room.old) }
     ensures lent { room.new
         ≡ lent_behind 2 answer.old room.old (put room.old 0 (result_file file.now)) }
 {
     if answer.len() != 2 {
-        return 60;
+        return Refusal::AnswerLength.into();
     }
     let outcome = files_results::write_results(file, room);
-    bits::copy_words(&[outcome.number, outcome.size as u64], answer);
-    outcome.number
+    answer.copy_from_slice(&sized_words(outcome));
+    fault_number(outcome)
 }
 
 // The summary of all states, an entry of four words for each centre, to a lent list, and an answer run of two words.
@@ -189,17 +190,17 @@ pub fn kelubashi1_summary(
     list: &mut [u64],
     answer: &mut [u64],
 ) -> u64
-    ensures number { result ≡ returned 2 answer.old (summary_refusal states.now (roster_of One count centres) list.old) }
+    ensures number { result ≡ returned 2 answer.old (refusal_in (summary_refusal states.now (roster_of One count centres) list.old)) }
     ensures answer { answer.new
-        ≡ answer_after 2 answer.old (summary_refusal states.now (roster_of One count centres) list.old ∷ count ∷ []) }
+        ≡ answer_after 2 answer.old (refusal_in (summary_refusal states.now (roster_of One count centres) list.old) ∷ count ∷ []) }
     ensures list { list.new
         ≡ lent_behind 2 answer.old list.old (summary_list states.now (roster_of One count centres) list.old) }
 {
     if answer.len() != 2 {
-        return 60;
+        return Refusal::AnswerLength.into();
     }
-    let number = files_summary::words::summary(list, states, roster_of(count, centres));
-    bits::copy_words(&[number, count], answer);
+    let number = number_in(files_summary::words::summary(list, states, roster_of(count, centres)));
+    answer.copy_from_slice(&[number, count]);
     number
 }
 
@@ -213,20 +214,20 @@ pub fn kelubashi1_append(
     answer: &mut [u64],
 ) -> u64
     ensures number { result ≡ returned 2 answer.old
-        (change_made (append state.now) states.old count centres list.old).number }
+        (refusal_in (change_made (append state.now) states.old count centres list.old)) }
     ensures answer { answer.new ≡ answer_after 2 answer.old
-        (change_words (change_made (append state.now) states.old count centres list.old)) }
+        (change_words count (change_made (append state.now) states.old count centres list.old)) }
     ensures states { states.new ≡ lent_behind 2 answer.old states.old
         (states_made (append state.now) states.old count centres list.old) }
     ensures list { list.new ≡ lent_behind 2 answer.old list.old
         (list_made (append state.now) states.old count centres list.old) }
 {
     if answer.len() != 2 {
-        return 60;
+        return Refusal::AnswerLength.into();
     }
     let appended = files_summary::words::append(list, state, states, roster_of(count, centres));
-    bits::copy_words(&[appended.number, appended.count], answer);
-    appended.number
+    answer.copy_from_slice(&change_words(appended, count));
+    number_in(appended)
 }
 
 // A state withdrawn from those in use, and its centre's entry brought up to date, with an answer run of two words.
@@ -239,20 +240,20 @@ pub fn kelubashi1_withdraw(
     answer: &mut [u64],
 ) -> u64
     ensures number { result ≡ returned 2 answer.old
-        (change_made (withdraw which) states.old count centres list.old).number }
+        (refusal_in (change_made (withdraw which) states.old count centres list.old)) }
     ensures answer { answer.new ≡ answer_after 2 answer.old
-        (change_words (change_made (withdraw which) states.old count centres list.old)) }
+        (change_words count (change_made (withdraw which) states.old count centres list.old)) }
     ensures states { states.new ≡ lent_behind 2 answer.old states.old
         (states_made (withdraw which) states.old count centres list.old) }
     ensures list { list.new ≡ lent_behind 2 answer.old list.old
         (list_made (withdraw which) states.old count centres list.old) }
 {
     if answer.len() != 2 {
-        return 60;
+        return Refusal::AnswerLength.into();
     }
     let withdrawn = files_summary::words::withdraw(list, which, states, roster_of(count, centres));
-    bits::copy_words(&[withdrawn.number, withdrawn.count], answer);
-    withdrawn.number
+    answer.copy_from_slice(&change_words(withdrawn, count));
+    number_in(withdrawn)
 }
 
 // A verdict for each row of another station's file, to a lent run, and an answer run of two words.
@@ -264,11 +265,11 @@ pub fn kelubashi1_check(file: &[u8], verdicts: &mut [u64], answer: &mut [u64]) -
         ≡ lent_behind 2 answer.old verdicts.old (verdicts_after file.now verdicts.old) }
 {
     if answer.len() != 2 {
-        return 60;
+        return Refusal::AnswerLength.into();
     }
-    let judged = files_check::judge(file, verdicts);
-    bits::copy_words(&[judged.number, judged.place_or_rows as u64], answer);
-    judged.number
+    let words = sized_words(files_check::judge(file, verdicts));
+    answer.copy_from_slice(&words);
+    words[0]
 }
 
 // Two result files compared, row by row to a lent run, and an answer run of seven words.
@@ -280,9 +281,9 @@ pub fn kelubashi1_compare(left: &[u8], right: &[u8], rows: &mut [u64], answer: &
         ≡ lent_behind 7 answer.old rows.old (run_after left.now right.now rows.old) }
 {
     if answer.len() != 7 {
-        return 60;
+        return Refusal::AnswerLength.into();
     }
     let words = files_differences::words_of(files_compare::compare(left, right, rows));
-    bits::copy_words(&words, answer);
+    answer.copy_from_slice(&words);
     words[0]
 }

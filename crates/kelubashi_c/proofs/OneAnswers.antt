@@ -1,6 +1,6 @@
--- Each export leaves one answer open, and one content of the run it was lent.
-use mathlib.Core.Path.{sym, ◌∙◌}
+-- Each export leaves one answer open, and one content of the run it was lent: its contract is that of the function which it calls, and so is this law.
 use Rattle.bits.specs.OneAnswer.{OneAnswer}
+use Rattle.kelubashi.proofs.OneAnswers as face
 use Rattle.kelubashi_c.proofs.kelubashi1_root.Kinds as root-kinds
 use Rattle.kelubashi_c.proofs.kelubashi1_root.Reads as root-reads
 use Rattle.kelubashi_c.proofs.kelubashi1_propagate.Kinds as propagate-kinds
@@ -27,39 +27,37 @@ use Rattle.kelubashi_c.proofs.kelubashi1_compare.Kinds as compare-kinds
 use Rattle.kelubashi_c.proofs.kelubashi1_compare.Reads as compare-reads
 
 pub root_one : OneAnswer 1 root-kinds.ps root-kinds.r root-reads.Post
-root_one κs a x y v w p q = (p.0 ∙ sym q.0, λ i. (tt, ((p.1 ∙ sym q.1) i, tt)))
+root_one = face.root_one
 
 pub propagate_one : OneAnswer 1 propagate-kinds.ps propagate-kinds.r propagate-reads.Post
-propagate_one κs a x y v w p q = (p.0 ∙ sym q.0, λ i. (tt, (tt, (tt, (tt, (tt, (tt, (tt, (tt, ((p.1 ∙ sym q.1) i, tt))))))))))
+propagate_one = face.propagate_one
 
 pub partials_one : OneAnswer 2 partials-kinds.ps partials-kinds.r partials-reads.Post
-partials_one κs a x y v w p q = (p.0 ∙ sym q.0, λ i. (tt, (tt, (tt, (tt, (tt, (tt, (tt, (tt, ((p.1.0 ∙ sym q.1.0) i, ((p.1.1 ∙ sym q.1.1) i, tt)))))))))))
+partials_one = face.partials_one
 
 pub read_one : OneAnswer 2 read-kinds.ps read-kinds.r read-reads.Post
-read_one κs a x y v w p q = (p.0 ∙ sym q.0, λ i. (tt, ((p.1 ∙ sym q.1) i, tt)))
+read_one = face.read_one
 
 pub write_one : OneAnswer 5 write-kinds.ps write-kinds.r write-reads.Post
-write_one κs a x y v w p q = (p.0 ∙ sym q.0, λ i. (tt, (tt, (tt, ((p.1.1 ∙ sym q.1.1) i, ((p.1.0 ∙ sym q.1.0) i, tt))))))
+write_one = face.write_one
 
 pub interval_one : OneAnswer 1 interval-kinds.ps interval-kinds.r interval-reads.Post
-interval_one κs a x y v w p q = (p.0 ∙ sym q.0, λ i. (tt, (tt, ((p.1 ∙ sym q.1) i, tt))))
+interval_one = face.interval_one
 
 pub results_one : OneAnswer 3 results-kinds.ps results-kinds.r results-reads.Post
-results_one κs a x y v w p q = (p.0 ∙ sym q.0, λ i. (tt, ((p.1.1 ∙ sym q.1.1) i, ((p.1.0 ∙ sym q.1.0) i, tt))))
+results_one = face.results_one
 
 pub summary_one : OneAnswer 3 summary-kinds.ps summary-kinds.r summary-reads.Post
-summary_one κs a x y v w p q = (p.0 ∙ sym q.0, λ i. (tt, (tt, (tt, ((p.1.1 ∙ sym q.1.1) i, ((p.1.0 ∙ sym q.1.0) i, tt))))))
+summary_one = face.summary_one
 
 pub append_one : OneAnswer 4 append-kinds.ps append-kinds.r append-reads.Post
-append_one κs a x y v w p q =
-    (p.0 ∙ sym q.0, λ i. (tt, ((p.1.1.0 ∙ sym q.1.1.0) i, (tt, (tt, ((p.1.1.1 ∙ sym q.1.1.1) i, ((p.1.0 ∙ sym q.1.0) i, tt)))))))
+append_one = face.append_one
 
 pub withdraw_one : OneAnswer 3 withdraw-kinds.ps withdraw-kinds.r withdraw-reads.Post
-withdraw_one κs a x y v w p q =
-    (p.0 ∙ sym q.0, λ i. (tt, ((p.1.1.0 ∙ sym q.1.1.0) i, (tt, (tt, ((p.1.1.1 ∙ sym q.1.1.1) i, ((p.1.0 ∙ sym q.1.0) i, tt)))))))
+withdraw_one = face.withdraw_one
 
 pub check_one : OneAnswer 3 check-kinds.ps check-kinds.r check-reads.Post
-check_one κs a x y v w p q = (p.0 ∙ sym q.0, λ i. (tt, ((p.1.1 ∙ sym q.1.1) i, ((p.1.0 ∙ sym q.1.0) i, tt))))
+check_one = face.check_one
 
 pub compare_one : OneAnswer 4 compare-kinds.ps compare-kinds.r compare-reads.Post
-compare_one κs a x y v w p q = (p.0 ∙ sym q.0, λ i. (tt, (tt, ((p.1.1 ∙ sym q.1.1) i, ((p.1.0 ∙ sym q.1.0) i, tt)))))
+compare_one = face.compare_one

@@ -2,8 +2,9 @@
 #![tactic(auto)]
 
 ghost use Rattle.std.specs.Prelude.{◌≡◌, [], ◌∷◌, length};
+ghost use Rattle.bits.specs.Refusal.{number_in as refusal_in};
 ghost use Rattle.bits.specs.Root.{root_refusal_of, root_word_of};
-ghost use Rattle.states.specs.Call.{orbit_words, answer_words, propagate_of};
+ghost use Rattle.states.specs.Call.{orbit_words, answer_words, refusal_of, propagate_of};
 ghost use Rattle.states.specs.WithPartials.{partials_of, lent_of};
 ghost use Rattle.files_words.specs.Bytes.{put};
 ghost use Rattle.files_results.specs.Requests.{tau_of};
@@ -17,6 +18,7 @@ ghost use Rattle.kelubashi.specs.Face.{
   returned,
   answer_after,
   lent_behind,
+  fault_number,
   read_words,
   results_words,
   number_in,
@@ -52,7 +54,7 @@ pub extern "C" fn kelubashi1_propagate(
     tau: u64,
     answer: &mut [u64],
 ) -> u64
-    ensures number { result ≡ returned 15 answer.old (propagate_of (orbit_words mu x y z vx vy vz tau)).refusal }
+    ensures number { result ≡ returned 15 answer.old (refusal_of (propagate_of (orbit_words mu x y z vx vy vz tau))) }
     ensures answer { answer.new ≡ answer_after 15 answer.old (answer_words (propagate_of (orbit_words mu x y z vx vy vz tau))) }
 {
     kelubashi::kelubashi1_propagate(mu, x, y, z, vx, vy, vz, tau, answer)
@@ -72,7 +74,7 @@ pub extern "C" fn kelubashi1_partials(
     answer: &mut [u64],
     run: &mut [u64],
 ) -> u64
-    ensures number { result ≡ returned 15 answer.old (partials_of (orbit_words mu x y z vx vy vz tau) run.old).refusal }
+    ensures number { result ≡ returned 15 answer.old (refusal_of (partials_of (orbit_words mu x y z vx vy vz tau) run.old)) }
     ensures answer { answer.new
         ≡ answer_after 15 answer.old (answer_words (partials_of (orbit_words mu x y z vx vy vz tau) run.old)) }
     ensures lent { run.new
@@ -120,7 +122,7 @@ pub extern "C" fn kelubashi1_interval(time: u64, epoch: u64, answer: &mut [u64])
 // The result file of an element file, to a room, and an answer run of two words.
 #[unsafe(no_mangle)]
 pub extern "C" fn kelubashi1_results(file: &[u8], room: &mut [u8], answer: &mut [u64]) -> u64
-    ensures number { result ≡ returned 2 answer.old (outcome_of file.now room.old).number }
+    ensures number { result ≡ returned 2 answer.old (fault_number (outcome_of file.now room.old)) }
     ensures answer { answer.new ≡ answer_after 2 answer.old (results_words file.now room.old) }
     ensures lent { room.new
         ≡ lent_behind 2 answer.old room.old (put room.old 0 (result_file file.now)) }
@@ -137,9 +139,9 @@ pub extern "C" fn kelubashi1_summary(
     list: &mut [u64],
     answer: &mut [u64],
 ) -> u64
-    ensures number { result ≡ returned 2 answer.old (summary_refusal states.now (roster_of One count centres) list.old) }
+    ensures number { result ≡ returned 2 answer.old (refusal_in (summary_refusal states.now (roster_of One count centres) list.old)) }
     ensures answer { answer.new
-        ≡ answer_after 2 answer.old (summary_refusal states.now (roster_of One count centres) list.old ∷ count ∷ []) }
+        ≡ answer_after 2 answer.old (refusal_in (summary_refusal states.now (roster_of One count centres) list.old) ∷ count ∷ []) }
     ensures list { list.new
         ≡ lent_behind 2 answer.old list.old (summary_list states.now (roster_of One count centres) list.old) }
 {
@@ -157,9 +159,9 @@ pub extern "C" fn kelubashi1_append(
     answer: &mut [u64],
 ) -> u64
     ensures number { result ≡ returned 2 answer.old
-        (change_made (append state.now) states.old count centres list.old).number }
+        (refusal_in (change_made (append state.now) states.old count centres list.old)) }
     ensures answer { answer.new ≡ answer_after 2 answer.old
-        (change_words (change_made (append state.now) states.old count centres list.old)) }
+        (change_words count (change_made (append state.now) states.old count centres list.old)) }
     ensures states { states.new ≡ lent_behind 2 answer.old states.old
         (states_made (append state.now) states.old count centres list.old) }
     ensures list { list.new ≡ lent_behind 2 answer.old list.old
@@ -179,9 +181,9 @@ pub extern "C" fn kelubashi1_withdraw(
     answer: &mut [u64],
 ) -> u64
     ensures number { result ≡ returned 2 answer.old
-        (change_made (withdraw which) states.old count centres list.old).number }
+        (refusal_in (change_made (withdraw which) states.old count centres list.old)) }
     ensures answer { answer.new ≡ answer_after 2 answer.old
-        (change_words (change_made (withdraw which) states.old count centres list.old)) }
+        (change_words count (change_made (withdraw which) states.old count centres list.old)) }
     ensures states { states.new ≡ lent_behind 2 answer.old states.old
         (states_made (withdraw which) states.old count centres list.old) }
     ensures list { list.new ≡ lent_behind 2 answer.old list.old

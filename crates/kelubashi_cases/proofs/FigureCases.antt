@@ -9,7 +9,7 @@ use Rattle.search_check.specs.Passing.{picks, short_passes, past_passes, passes}
 use Rattle.search_check.specs.Right.{has_sign_of, is_right_beyond_zero, is_right}
 use Rattle.states.proofs.Computed.{state_answer, refused_with}
 use Rattle.states.specs.WithPartials.{with_partials, partials_by, lent_by}
-use Rattle.states_partials.specs.U.{u_at_found, u_of, u_refused}
+use Rattle.states_partials.specs.U.{u_at_found, sums_at_whole, u_of, u_refused}
 use Rattle.states_partials.specs.Matrix.{matrix_of}
 use Rattle.states_partials.specs.Entries.{plus_of, minus_of, partial_of, unit_of, component_of, entry_of, up_to, entries_of}
 use Rattle.states_partials.specs.Partials.{partials_refusal, lent_after}
@@ -78,7 +78,7 @@ pub partials : (κs : Lfts 2) (at : Places) →
     × Partials κs at 0 one 0 0 0 0x5f30000000000000 0 0x4270000000000000 (sevens 15) (sevens 36) 6 (refused_with 6 1) (sevens 36)
     × Partials κs at nan one one one one one one one (sevens 14) (sevens 35) 60 (sevens 14) (sevens 35)
 unfolding
-    state_answer partials_by lent_by with_partials partials_refusal lent_after u_at_found u_of u_refused matrix_of plus_of minus_of partial_of unit_of component_of entry_of
+    state_answer partials_by lent_by with_partials partials_refusal lent_after u_at_found sums_at_whole u_of u_refused matrix_of plus_of minus_of partial_of unit_of component_of entry_of
     up_to entries_of
 partials κs at = (two_runs, two_runs, two_runs, two_runs, two_runs, two_runs)
 

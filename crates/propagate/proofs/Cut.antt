@@ -1,14 +1,13 @@
 -- Of a long file the program reads the first 56,161 bytes. Whatever follows them, their result file is that of the whole: the reader walks forward, and no word that it
 -- asks for stands behind byte 56,160.
-use Rattle.std.proofs.Common.{ℕ, zero, suc, ◌+◌, ◌*◌, ◌<◌, ◌≤◌, arith, ◌≡◌, refl, sym, ap, ap₂, ◌∙◌, Bool, true, false, leb, leb-true, le-leb, List, [], ◌∷◌, ◌++◌, length, take, drop, length-append, length-drop}
+use Rattle.std.proofs.Common.{ℕ, zero, suc, ◌+◌, ◌*◌, ◌<◌, ◌≤◌, arith, ◌≡◌, refl, sym, ap, ap₂, ◌∙◌, Bool, true, false, Ok, Err, leb, leb-true, le-leb, List, [], ◌∷◌, ◌++◌, length, take, drop, length-append, length-drop}
 use borrow.Author.Tests.{lt-leb}
 use lib.Seq.{take-append-le, drop-append-le}
 use Rattle.files_words.specs.Bytes.{number_of, word_at, words_from, as_bytes}
 use Rattle.files_words.proofs.WordLaws.{word_whole, next_word}
 use Rattle.files_records.proofs.Steps.{more}
-use Rattle.files_checks.specs.declared.Check.{Check}
-use Rattle.files_checks.specs.declared.Check.TheVariants.{Sound, Fault}
-use Rattle.files_checks.specs.Checks.{need, told, ◌⟫◌, Ruling, walk, count_check, counted_check, edition_check, end_check}
+use Rattle.bits.specs.declared.refusal.Refusal.TheVariants.{WordMissing, UnknownEdition, TooMany, BytesLeft}
+use Rattle.files_checks.specs.Checks.{Check, fault, need, told, ◌⟫◌, Ruling, walk, count_check, counted_check, edition_check, end_check}
 use Rattle.files_formats.specs.declared.elements.Edition.{Edition}
 use Rattle.files_formats.specs.declared.elements.Section.{Section}
 use Rattle.files_formats.specs.declared.elements.Section.TheVariants.{Centres, States, Requests}
@@ -16,7 +15,7 @@ use Rattle.files_formats.specs.declared.shapes.Shape.{Shape}
 use Rattle.files_formats.specs.Kinds.{ruling_of}
 use Rattle.files_formats.specs.Elements.{is_edition, edition_of, sections, kinds_of, limit_of, width_of}
 use Rattle.files_formats.specs.Shapes.{shape_of, with_count, below_of, place_of, end_of, section_check}
-use Rattle.files_reader.specs.Reader.{longest_file, edition_in, first_check, shape_in, grown, sections_check, file_check, reading_by, reading_of}
+use Rattle.files_reader.specs.Reader.{longest_file, edition_in, first_check, shape_in, grown, sections_check, file_check, reading_of}
 use Rattle.files_reader.proofs.Accepted.{Few, within_longest, end_within, accepted_length}
 use Rattle.files_results.specs.Results.{result_by, result_file}
 
@@ -68,16 +67,16 @@ module _ (start rest : List ℕ) where
 
   same_first : 8 ≤ length start → first_check whole ≡ first_check start
   unfolding edition_check
-  same_first h = ap₂ (λ (b : Bool) (w : ℕ). need b 21 0 ⟫ need (is_edition w) 22 0) (same_need 0 h) (same_word 0 h)
+  same_first h = ap₂ (λ (b : Bool) (w : ℕ). need b WordMissing 0 ⟫ need (is_edition w) UnknownEdition 0) (same_need 0 h) (same_word 0 h)
 
   module _ (place limit width : ℕ) (ruling : Ruling) (h : place + 8 ≤ length start) where
     same_count : count_check whole place limit ≡ count_check start place limit
     unfolding count_check
-    same_count = ap₂ (λ (b : Bool) (w : ℕ). need b 21 place ⟫ need (leb w limit) 23 place) (same_need place h) (same_word place h)
+    same_count = ap₂ (λ (b : Bool) (w : ℕ). need b WordMissing place ⟫ need (leb w limit) TooMany place) (same_need place h) (same_word place h)
 
-    too_many : leb (word_at start place) limit ≡ false → count_check start place limit ≡ Fault 23 place
+    too_many : leb (word_at start place) limit ≡ false → count_check start place limit ≡ fault TooMany place
     unfolding count_check
-    too_many e = ap₂ (λ (b d : Bool). need b 21 place ⟫ need d 23 place) (le-leb _ _ h) e
+    too_many e = ap₂ (λ (b d : Bool). need b WordMissing place ⟫ need d TooMany place) (le-leb _ _ h) e
 
     -- A section, and what is checked behind it: there only if the count is within its limit.
     same_counted : {x y : Check} (b : Bool) → leb (word_at start place) limit ≡ b →
@@ -97,7 +96,7 @@ module _ (start rest : List ℕ) where
 
   module _ (long : longest_file < length start) where
     same_end : (end : ℕ) → end ≤ longest_file → end_check whole end ≡ end_check start end
-    same_end end h = ap (λ (b : Bool). need b 25 end) (lt-leb (length whole) end (omega (arith, longer)) ∙ sym (lt-leb (length start) end (omega arith)))
+    same_end end h = ap (λ (b : Bool). need b BytesLeft end) (lt-leb (length whole) end (omega (arith, longer)) ∙ sym (lt-leb (length start) end (omega arith)))
 
     -- The sections, as far as they can reach.
     same_sections : (those : List Section) (shape : Shape) → Few shape → sections_check whole shape those ≡ sections_check start shape those
@@ -126,13 +125,13 @@ module _ (start rest : List ℕ) where
 
     -- A file of this length is not accepted, and of a refusal only the number is told.
     told_by : (check : Check) → file_check start ≡ check →
-        result_by whole (reading_by check (shape_in (edition_in whole) whole)) ≡ result_by start (reading_by check (shape_in (edition_in start) start))
+        result_by whole (check ⟫ Ok (shape_in (edition_in whole) whole)) ≡ result_by start (check ⟫ Ok (shape_in (edition_in start) start))
     unfolding reading_of
-    told_by Sound e =
+    told_by (Ok done) e =
         let shape = shape_in (edition_in start) start in
-        absurd (omega (arith, accepted_length start shape (ap (λ (c : Check). reading_by c shape) e)))
-    told_by (Fault number place) e = refl
+        absurd (omega (arith, accepted_length start shape (ap (λ (c : Check). c ⟫ Ok shape) e)))
+    told_by (Err fault) e = refl
 
     pub cut : result_file whole ≡ result_file start
     unfolding result_file reading_of
-    cut = ap as_bytes (ap (λ (c : Check). result_by whole (reading_by c (shape_in (edition_in whole) whole))) same_check ∙ told_by (file_check start) refl)
+    cut = ap as_bytes (ap (λ (c : Check). result_by whole (c ⟫ Ok (shape_in (edition_in whole) whole))) same_check ∙ told_by (file_check start) refl)

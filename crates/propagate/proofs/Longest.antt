@@ -1,20 +1,21 @@
 -- No result file is longer than the longest: that of 1,500 requests, 132,016 bytes. So a room of that length takes every one.
-use Rattle.std.proofs.Common.{ℕ, ◌+◌, ◌≤◌, arith, ◌≡◌, refl, sym, ap, ◌∙◌, List, length, take, drop, length-take-le}
+use Rattle.std.proofs.Common.{Result, Ok, Err, ℕ, ◌+◌, ◌≤◌, arith, ◌≡◌, refl, sym, ap, ◌∙◌, List, length, take, drop, length-take-le}
 use lib.Seq.{take-append_seam}
 use Rattle.std.specs.Counts.{IsPrefixLen}
 use Rattle.files_words.specs.Bytes.{as_bytes, put}
 use Rattle.files_words.proofs.WordLaws.{length-as_bytes}
 use Rattle.files_words.proofs.PutLaws.{put_fits, length-put}
 use Rattle.files_reader.specs.Reader.{reading_of}
-use Rattle.files_reader.specs.declared.Reading.{Reading}
-use Rattle.files_reader.specs.declared.Reading.TheVariants.{Sections, Refused}
+use Rattle.files_formats.specs.declared.shapes.Shape.{Shape}
+use Rattle.files_checks.specs.declared.Fault.{Fault}
+use Rattle.bits.specs.Refusal.{number_of}
 use Rattle.files_reader.proofs.Accepted.{accepted_counts}
 use Rattle.files_results.specs.Results.{longest_result, refused_file, result_by, result_file}
 use Rattle.files_results.proofs.Rows.{result_length}
 
-longest_by : (file : List ℕ) (reading : Reading) → reading_of file ≡ reading → length (as_bytes (result_by file reading)) ≤ longest_result
-longest_by file (Sections shape) e = omega (arith, result_length file shape, accepted_counts file shape e)
-longest_by file (Refused number place) e = omega (arith, length-as_bytes (refused_file number))
+longest_by : (file : List ℕ) (reading : Result Shape Fault) → reading_of file ≡ reading → length (as_bytes (result_by file reading)) ≤ longest_result
+longest_by file (Ok shape) e = omega (arith, result_length file shape, accepted_counts file shape e)
+longest_by file (Err fault) e = omega (arith, length-as_bytes (refused_file (number_of fault.refusal)))
 
 pub longest : (file : List ℕ) → length (result_file file) ≤ longest_result
 unfolding result_file

@@ -36,24 +36,28 @@ fn is_given(rt: &HostRuntime, number: usize) -> bool {
     !matches!(rt.arg(number, &mut []), Err(FillError::NotPresent))
 }
 
-// The file that the first argument names. A name that is not UTF-8 cannot be opened.
+// The file that the first argument names.
 fn propagate_named(rt: &HostRuntime) {
-    let mut path = [0u8; 4096];
-    match rt.arg(1, &mut path) {
-        Ok(size) => propagate_path(rt, &path[..size]),
-        Err(FillError::TooLong) => fail(rt, b"the name of the file", Reason::NameTooLong),
-        Err(FillError::NotPresent) => fail(rt, b"the name of the file", Reason::InvalidArgument),
+    let mut room = [0u8; 4096];
+    let path = match rt.arg(1, &mut room) {
+        Ok(size) => &room[..size],
+        Err(FillError::TooLong) => return fail(rt, b"the name of the file", Reason::NameTooLong),
+        Err(FillError::NotPresent) => return fail(
+            rt,
+            b"the name of the file",
+            Reason::InvalidArgument,
+        ),
+    };
+    match open(rt, path) {
+        Ok(file) => propagate(rt, file, path),
+        Err(error) => fail(rt, path, error),
     }
 }
 
-fn propagate_path(rt: &HostRuntime, path: &[u8]) {
-    match str::from_utf8(path) {
-        Ok(text) => match File::open(rt, text) {
-            Ok(file) => propagate(rt, file, path),
-            Err(error) => fail(rt, path, error),
-        },
-        Err(_) => fail(rt, path, Reason::NotText),
-    }
+// A name that is not UTF-8 cannot be opened.
+fn open(rt: &HostRuntime, path: &[u8]) -> io::Result<File> {
+    let text = str::from_utf8(path).map_err(|_| Reason::NotText)?;
+    File::open(rt, text)
 }
 
 // How many bytes of a file are read: one more than the longest accepted file has.
@@ -92,7 +96,7 @@ fn results_of(file: &[u8], room: &mut [u8; LONGEST_RESULT]) -> usize
     ensures longer { READ ≤ length file.now → (rest : List ℕ) → take result room.new ≡ result_file (file.now ++ rest) }
 {
     let outcome = files_results::write_results(file, room);
-    outcome.size
+    outcome.unwrap()
 }
 
 // Says on standard error what failed, and why. The reason is the C library's text alone: std adds its number.
@@ -102,10 +106,10 @@ fn fail(rt: &HostRuntime, what: &[u8], error: impl Into<io::Error>) {
     let mut said = Cursor::new(&mut room[..]);
     let _ = write!(said, "{error}");
     let size = said.position().min(288) as usize;
-    let reason = match str::from_utf8(&room[..size]) {
-        Ok(text) => text.split_once(" (os error ").map_or(text, |parts| parts.0),
-        Err(_) => "",
-    };
+    let text = str::from_utf8(&room[..size]).unwrap_or("");
+    let reason = text
+        .split_once(" (os error ")
+        .map_or(text, |(reason, _)| reason);
     // Where standard error takes nothing, there is nowhere left to say so.
     let mut errors = rt.stderr();
     let _ = streams::write_whole(&mut errors, what);
