@@ -1,28 +1,28 @@
 // The 36 partials, row by row.
 ghost use Rattle.std.specs.Prelude.{◌≡◌, ◌%◌};
 ghost use Rattle.bits.specs.Words.{words_of};
-ghost use Rattle.states_partials.specs.Entries.{plus_of, minus_of, partial_of, component_of, unit_of, entry_of, entries_of};
+ghost use Rattle.states_partials.specs.Entries.{bracket, component_of, unit_of, entry_of, entries_of};
 
 use super::matrix::{Matrix, matrix_of};
 use super::u::u_of;
 use bits::words::word_of;
-use states_arcs::{Arc, Factors};
+use states_arcs::Arc;
 use states_start::Vector;
 
-// A partial of the position: k·I and the four products.
-#[tactic(auto, unfolding(crate::specs::Entries::plus_of))]
-fn plus(k: f64, unit: f64, a: f64, b: f64, c: f64, d: f64, p: f64, w: f64, q: f64, u: f64) -> f64
-    ensures { result ≡ plus_of k unit a b c d p w q u }
-{
-    k * unit + ((a * p * q + b * p * u) + (c * w * q + d * w * u))
+// The components of an entry: p and w of the result's position and velocity, q and u of the start's.
+#[derive(Clone, Copy)]
+struct Components {
+    p: f64,
+    w: f64,
+    q: f64,
+    u: f64,
 }
 
-// A partial of the velocity: k·I less the four products.
-#[tactic(auto, unfolding(crate::specs::Entries::minus_of))]
-fn minus(k: f64, unit: f64, a: f64, b: f64, c: f64, d: f64, p: f64, w: f64, q: f64, u: f64) -> f64
-    ensures { result ≡ minus_of k unit a b c d p w q u }
+// The four products of a partial, with a to d from A11 to A33.
+fn products(at: Components, a: f64, b: f64, c: f64, d: f64) -> f64
+    ensures { result ≡ bracket a b c d at.p at.w at.q at.u }
 {
-    k * unit - ((a * p * q + b * p * u) + (c * w * q + d * w * u))
+    (a * at.p * at.q + b * at.p * at.u) + (c * at.w * at.q + d * at.w * at.u)
 }
 
 // Component 0, 1 or 2 of a vector.
@@ -30,13 +30,11 @@ fn minus(k: f64, unit: f64, a: f64, b: f64, c: f64, d: f64, p: f64, w: f64, q: f
 fn component(v: Vector, i: usize) -> f64
     ensures { result ≡ component_of v i }
 {
-    if i == 0 {
-        return v.x;
+    match i {
+        0 => v.x,
+        1 => v.y,
+        _ => v.z,
     }
-    if i == 1 {
-        return v.y;
-    }
-    v.z
 }
 
 // I: 1 for like components, else +0.
@@ -47,45 +45,24 @@ fn unit_of(i: usize, j: usize) -> f64
     if i == j { 1.0 } else { 0.0 }
 }
 
-// The partial of p, or of w, by q, or by u.
-#[tactic(auto, unfolding(crate::specs::Entries::partial_of))]
-fn partial(
-    of_position: bool,
-    by_position: bool,
-    factors: Factors,
-    a: Matrix,
-    unit: f64,
-    p: f64,
-    w: f64,
-    q: f64,
-    u: f64,
-) -> f64
-    ensures { result ≡ partial_of of_position by_position factors a unit p w q u }
-{
-    if of_position {
-        if by_position {
-            return plus(factors.f, unit, a.a21, a.a22, a.a31, a.a32, p, w, q, u);
-        }
-        return plus(factors.g, unit, a.a22, a.a23, a.a32, a.a33, p, w, q, u);
-    }
-    if by_position {
-        return minus(factors.fprime, unit, a.a11, a.a12, a.a21, a.a22, p, w, q, u);
-    }
-    minus(factors.gprime, unit, a.a12, a.a13, a.a22, a.a23, p, w, q, u)
-}
-
-// The partial in a row and a column, 0 to 5 each; p and w are the row's.
-#[tactic(auto, unfolding(crate::specs::Entries::entry_of))]
+// The partial in a row and a column, 0 to 5 each: of p, or of w, by q, or by u. Those of the velocity take the products away. p and w are the row's.
+#[tactic(auto, unfolding(crate::specs::Entries::entry_of, crate::specs::Entries::partial_of, crate::specs::Entries::plus_of, crate::specs::Entries::minus_of))]
 fn entry(arc: Arc, a: Matrix, row: usize, column: usize, p: f64, w: f64) -> f64
     requires { (p ≡ component_of arc.end.position (row % 3)) × (w ≡ component_of arc.end.velocity (row % 3)) }
     ensures { result ≡ entry_of arc a row column }
 {
     let from = arc.start.state;
-    let j = column % 3;
-    let q = component(from.position, j);
-    let u = component(from.velocity, j);
-    let unit = unit_of(row % 3, j);
-    partial(row < 3, column < 3, arc.factors, a, unit, p, w, q, u)
+    let q = component(from.position, column % 3);
+    let u = component(from.velocity, column % 3);
+    let at = Components { p, w, q, u };
+    let k = arc.factors;
+    let unit = unit_of(row % 3, column % 3);
+    match (row < 3, column < 3) {
+        (true, true) => k.f * unit + products(at, a.a21, a.a22, a.a31, a.a32),
+        (true, false) => k.g * unit + products(at, a.a22, a.a23, a.a32, a.a33),
+        (false, true) => k.fprime * unit - products(at, a.a11, a.a12, a.a21, a.a22),
+        (false, false) => k.gprime * unit - products(at, a.a12, a.a13, a.a22, a.a23),
+    }
 }
 
 // The words of the 36 partials, row by row. The columns have their own loop, so that the compiler can write out a row's six
@@ -94,18 +71,13 @@ pub fn entries(arc: Arc) -> [u64; 36]
     ensures { result ≡ words_of (entries_of arc) }
 {
     let a = matrix_of(arc, u_of(arc));
-    let to = arc.end;
     let mut table = [0; 36];
-    let mut row = 0usize;
-    while row < 6 {
-        let p = component(to.position, row % 3);
-        let w = component(to.velocity, row % 3);
-        let mut column = 0usize;
-        while column < 6 {
+    for row in 0..6 {
+        let p = component(arc.end.position, row % 3);
+        let w = component(arc.end.velocity, row % 3);
+        for column in 0..6 {
             table[6 * row + column] = word_of(entry(arc, a, row, column, p, w));
-            column += 1;
         }
-        row += 1;
     }
     table
 }

@@ -30,12 +30,12 @@ at_number f table e h = rw e at h
 
 pub loop-row-init : goal.loop-row-init
 unfolding up_to
-loop-row-init c = (refl, omega arith, refl)
+loop-row-init c = (refl, refl)
 
 pub loop-column-init : goal.loop-column-init
 loop-column-init c =
     let o = c.loop-row in
-    (o.invariant.0, omega arith, at_number _ o.table (omega arith) o.invariant.2)
+    (o.invariant.0, at_number _ o.table (omega arith) o.invariant.1)
 
 pub loop-column-preserved : goal.loop-column-preserved
 loop-column-preserved c =
@@ -44,22 +44,19 @@ loop-column-preserved c =
     let k = 6 * o.row + at.column in
     let w = c.word_of.ensures ∙ ap (to_bits binary64) (c.entry.ensures ∙ in_place _ _ o.row at.column c.loop-column-test.true) in (
       length-set at.table k c.word_of.result ∙ at.invariant.0,
-      omega arith,
-      at_number _ _ (omega arith) (more _ at.table k c.word_of.result (omega (arith, at.invariant.0)) at.invariant.2 w),
+      at_number _ _ (omega arith) (more _ at.table k c.word_of.result (omega (arith, at.invariant.0)) at.invariant.1 w),
     )
 
 pub loop-row-preserved : goal.loop-row-preserved
 loop-row-preserved c =
-    let at = c.loop-column in (
-      at.invariant.0,
-      omega arith,
-      at_number _ at.table (omega (arith, at.invariant.1)) at.invariant.2,
-    )
+    let at = c.loop-column in
+    let e : at.column ≡ 6 = omega arith in
+    (at.invariant.0, at_number _ at.table (omega arith) at.invariant.1)
 
 pub returns : goal.returns
 unfolding entries_of
 returns c =
     let at = c.loop-row in
-    let e : 6 * at.row ≡ 36 = omega (arith, at.invariant.1) in
+    let e : 6 * at.row ≡ 36 = omega arith in
     simp (← c.u_of.ensures, ← c.matrix_of-a.ensures)
-    (sym (take_all 36 at.table (omega (arith, at.invariant.0))) ∙ at_number _ at.table e at.invariant.2)
+    (sym (take_all 36 at.table (omega (arith, at.invariant.0))) ∙ at_number _ at.table e at.invariant.1)

@@ -1,6 +1,6 @@
 -- The entries stored so far are the first of the definition's.
 use mathlib.Core.Path.{◌≡◌}
-use Prim.Native.Nat.{ℕ, ◌+◌, ◌-◌, ◌*◌, ◌≤◌, ◌/◌, ◌%◌}
+use Prim.Native.Nat.{ℕ, ◌+◌, ◌*◌, ◌/◌, ◌%◌}
 use lib.ListN.{length, take}
 use lib.Ieee.{Float}
 use Rattle.bits.specs.Words.{words_of}
@@ -15,13 +15,7 @@ placed arc a n = entry_of arc a (n / 6) (n % 6)
 
 abbrev pub invariant-loop-column : goal.invariant-loop-column
 invariant-loop-column l =
-    (length l.table ≡ 36) × (l.column ≤ 6) × (take (6 * l.row + l.column) l.table ≡ words_of (up_to (6 * l.row + l.column) (placed l.arc l.a)))
-
-abbrev pub decreases-loop-column : goal.decreases-loop-column
-decreases-loop-column l = 6 - l.column
+    (length l.table ≡ 36) × (take (6 * l.row + l.column) l.table ≡ words_of (up_to (6 * l.row + l.column) (placed l.arc l.a)))
 
 abbrev pub invariant-loop-row : goal.invariant-loop-row
-invariant-loop-row l = (length l.table ≡ 36) × (l.row ≤ 6) × (take (6 * l.row) l.table ≡ words_of (up_to (6 * l.row) (placed l.arc l.a)))
-
-abbrev pub decreases-loop-row : goal.decreases-loop-row
-decreases-loop-row l = 6 - l.row
+invariant-loop-row l = (length l.table ≡ 36) × (take (6 * l.row) l.table ≡ words_of (up_to (6 * l.row) (placed l.arc l.a)))
