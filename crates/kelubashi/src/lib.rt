@@ -51,6 +51,9 @@ fn roster_of(count: u64, centres: u64) -> Roster
     }
 }
 
+// Each call tests the length of its answer run by itself. A function that took the rest of a call as a closure could not promise that a lent run stays as it
+// was where the closure isn't called, and a run that `try_from` makes an array is not known to be that run any more: both were tried, and don't prove.
+
 // The square root of the double of a word, to an answer run of one word.
 #[tactic(auto, using(bits::proofs::Computed::answered))]
 pub fn kelubashi1_root(word: u64, answer: &mut [u64]) -> u64
