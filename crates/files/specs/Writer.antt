@@ -12,7 +12,7 @@ use Rattle.files_formats.specs.declared.elements.Section.{Section}
 use Rattle.files_formats.specs.declared.elements.Section.TheVariants.{Centres, States, Requests}
 use Rattle.files_formats.specs.declared.shapes.Shape.{Shape}
 use Rattle.files_formats.specs.Elements.{edition_word, sections, limit_of, width_of}
-use Rattle.files_formats.specs.Shapes.{shape_of, count_of, words_of, place_of, end_of, run_check}
+use Rattle.files_formats.specs.Shapes.{shape_of, with_count, count_of, words_of, place_of, end_of, run_check}
 use Rattle.files.specs.declared.Sections.{Sections}
 
 -- ---- "the three sections as runs of words": what is written has a run for each section.
@@ -97,6 +97,13 @@ writing_of edition runs room = write_check edition runs (length room) ⟫ Ok (en
 unfoldable pub room_of : Edition → Runs → (room : List ℕ) → List ℕ
 unfolding write_check file_of put
 room_of edition runs room = room_by (write_check edition runs (length room)) room (file_of edition runs)
+
+-- ---- What the writer's inner steps answer: after 23, the shape with a count; after 27 and 23, the shape of the file.
+abbrev pub counted_by : Shape → Section → (count : ℕ) → Result Shape Fault
+counted_by shape section count = limit_check shape section count ⟫ Ok (with_count shape section count)
+
+abbrev pub counts_shape : Edition → Runs → Result Shape Fault
+counts_shape edition runs = let shape = shape_by edition runs in (whole_checks edition runs ⟫ limit_checks shape) ⟫ Ok shape
 
 -- ---- What the stores need: runs of as many words as a shape says, and room for the file.
 pub record Fits (shape : Shape) (runs : Runs) (room : ℕ) : Type 0 where

@@ -4,9 +4,9 @@
 ghost use Rattle.std.specs.Prelude.{◌≡◌, ◌+◌, ◌*◌, ◌≤◌, length, ◌∷◌, Ok};
 ghost use Rattle.files_words.specs.Bytes.{put, as_bytes};
 ghost use Rattle.files_checks.specs.Checks.{◌⟫◌};
-ghost use Rattle.files_formats.specs.Shapes.{with_count, count_of, place_of, end_of};
-ghost use Rattle.files.specs.Writer.{runs_of, runs_in, records_in, shape_by, index_of, whole_check, limit_check, whole_checks, limit_checks};
-ghost use Rattle.files.specs.Writer.{room_check, word_checks, write_check, words_by, writing_of, room_of, Fits};
+ghost use Rattle.files_formats.specs.Shapes.{count_of, place_of, end_of};
+ghost use Rattle.files.specs.Writer.{runs_of, runs_in, records_in, shape_by, whole_check, counted_by, counts_shape, room_check, word_checks, write_check};
+ghost use Rattle.files.specs.Writer.{words_by, writing_of, room_of, Fits};
 
 use bits::Refusal;
 use files_checks::{Fault, need};
@@ -21,24 +21,17 @@ struct Sections<'a> {
     requests: &'a [u64],
 }
 
-// Which of the sections it is, 0 to 2.
-fn index(section: Section) -> usize
-    ensures { result ≡ index_of section }
-{
-    section as usize
-}
-
 // 27: a run is not whole records.
 fn check_whole(edition: Edition, section: Section, words: usize) -> Result<(), Fault>
     ensures { result ≡ whole_check edition section words }
 {
     let rest = words % width(edition, section);
-    need(rest == 0, Refusal::NotWholeRecords, index(section))
+    need(rest == 0, Refusal::NotWholeRecords, section as usize)
 }
 
 // 23: a count above its limit; else the shape with the count of so many words.
 fn count_records(shape: Shape, section: Section, words: usize) -> Result<Shape, Fault>
-    ensures { result ≡ (limit_check shape section (records_in shape.edition section words) ⟫ Ok (with_count shape section (records_in shape.edition section words))) }
+    ensures { result ≡ counted_by shape section (records_in shape.edition section words) }
 {
     let count = words / width(shape.edition, section);
     let few = count <= limit(section) as usize;
@@ -49,7 +42,7 @@ fn count_records(shape: Shape, section: Section, words: usize) -> Result<Shape, 
 // 27, then 23: the shape of the file that the sections make.
 #[tactic(auto, unfolding(crate::specs::Writer::each))]
 fn shape_by(edition: Edition, sections: Sections) -> Result<Shape, Fault>
-    ensures { result ≡ ((whole_checks edition (runs_in sections.entry) ⟫ limit_checks (shape_by edition (runs_in sections.entry))) ⟫ Ok (shape_by edition (runs_in sections.entry))) }
+    ensures { result ≡ counts_shape edition (runs_in sections.entry) }
 {
     check_whole(edition, Section::Centres, sections.centres.len())?;
     check_whole(edition, Section::States, sections.states.len())?;

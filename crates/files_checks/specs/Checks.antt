@@ -38,9 +38,9 @@ abbrev pub IsFault : {T : Type 0} → Result T Fault → (number place : ℕ) �
 IsFault (Ok value) number place = ⊥
 IsFault (Err fault) number place = (number_of fault.refusal ≡ number) × (fault.place ≡ place)
 
--- ---- The walk over the words of a section, one walk for every section. A ruling gives the refusal of a word, if any, by the words of its section before it, in
--- their order. `left` words of the section are left, the next stands at `place`, and `words` are those of the file from there on. "21 a needed word not whole";
--- "The place of a refusal is the first byte of the word at fault".
+-- ---- The walk over the words of a section, one walk for every section. A ruling gives the refusal of a word, if any, by the words of its section before it,
+-- in their order. `left` words of the section are left, the next stands at `place`, and `words` are those of the file from there on. "21 a needed word not
+-- whole"; "The place of a refusal is the first byte of the word at fault".
 
 abbrev pub Ruling : Type 0
 Ruling = (before : List ℕ) (word : ℕ) → Option Refusal

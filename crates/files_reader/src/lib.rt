@@ -37,7 +37,7 @@ fn read_section(file: &[u8], shape: Shape, section: Section) -> Result<Shape, Fa
 }
 
 // The shape of an element file, or its first fault.
-#[tactic(auto, unfolding(crate::specs::Reader::reading_of, crate::specs::Reader::file_check, crate::specs::Reader::sections_check, crate::specs::Reader::shape_in))]
+#[tactic(auto, unfolding(crate::specs::Reader::reading_of))]
 pub fn read_file(file: &[u8]) -> Result<Shape, Fault>
     ensures { result ≡ reading_of file.now }
 {
