@@ -4,7 +4,8 @@ ghost use Rattle.bits.specs.Runs.{is_sought, first_of, has, copied, same_words};
 
 use super::words::{SIGN, is_finite_word};
 
-// What a run is looked through for: a zero, of either sign, or a double that is not finite. Not a closure: the definitions and laws of runs name it (`none_sought`).
+// What a run is looked through for: a zero, of either sign, or a double that is not finite. Not a closure: definitions and laws of runs name it, as
+// `none_sought` does.
 #[derive(Clone, Copy, Debug, PartialEq, Eq)]
 pub enum Sought {
     Zero,

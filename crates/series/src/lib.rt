@@ -4,7 +4,19 @@
 
 ghost use Rattle.std.specs.Prelude.{◌≡◌, fold, reverse};
 ghost use Rattle.bits.specs.Arithmetic.{n1, ◌⊕◌, ◌⊗◌, ◌⊘◌};
-ghost use Rattle.series.specs.Series.{first_l, beyond_one, reduced, c4_of, c5_of, at_reduced, doublings, quotients_of, coefficients_from, coefficients_of, sums_of};
+ghost use Rattle.series.specs.Series.{
+  first_l,
+  beyond_one,
+  reduced,
+  c4_of,
+  c5_of,
+  at_reduced,
+  doublings,
+  quotients_of,
+  coefficients_from,
+  coefficients_of,
+  sums_of,
+};
 
 pub mod figures;
 
