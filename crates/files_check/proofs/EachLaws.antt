@@ -13,6 +13,12 @@ set_behind (v ∷ front) run w zero e h = absurd (omega arith)
 set_behind (v ∷ front) [] w (suc n) e h = absurd (omega arith)
 set_behind (v ∷ front) (x ∷ run) w (suc n) e h = ap (λ (l : List ℕ). v ∷ l) (set_behind front run w n (omega arith) (omega arith))
 
+-- What is the same of each is the same of all.
+pub each_same : (f g : ℕ → ℕ) (n : ℕ) → ((j : ℕ) → j < n → f j ≡ g j) → each_of f n ≡ each_of g n
+unfolding each_of
+each_same f g zero h = refl
+each_same f g (suc n) h = ap₂ (λ (xs : List ℕ) (w : ℕ). xs ++ (w ∷ [])) (each_same f g n (λ j l. h j (omega arith))) (h n (omega arith))
+
 module _ (of : ℕ → ℕ) (run : List ℕ) where
   each_length : (n : ℕ) → length (each_of of n) ≡ n
   unfolding each_of

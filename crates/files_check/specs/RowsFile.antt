@@ -1,5 +1,5 @@
 -- Document 02, T-06: "Rows come 18 words each after a count of 0 to 400. Refusals: 21, 23, 25 as for element files, then a verdict per row."
-use Rattle.std.specs.Prelude.{Result, Ok, Err, List, [], ◌∷◌, ◌++◌, ℕ, zero, suc, ◌+◌, ◌*◌, leb, length, drop}
+use Rattle.std.specs.Prelude.{Result, Ok, Err, List, [], ◌∷◌, ◌++◌, ℕ, zero, suc, ◌+◌, ◌*◌, leb, length, take, drop}
 use Rattle.bits.specs.Choice.{pick}
 use Rattle.bits.specs.declared.refusal.Refusal.TheVariants.{RoomTooShort}
 use Rattle.files_words.specs.Bytes.{word_at}
@@ -50,6 +50,10 @@ verdict_of given anomaly nine = pick (accepts given anomaly nine) 1 0
 
 abbrev pub verdict_at : List ℕ → (k : ℕ) → ℕ
 verdict_at file k = let place = checked_place k in verdict_of (given_at file place) (proposed_at file place) (nine_at file place)
+
+-- Row k of a file, by its bytes.
+unfoldable pub row_at : List ℕ → (k : ℕ) → List ℕ
+row_at file k = take (8 * checked_width) (drop (checked_place k) file)
 
 -- The verdicts of the first n rows.
 abbrev pub verdicts_of : List ℕ → (n : ℕ) → List ℕ

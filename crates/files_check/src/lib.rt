@@ -1,10 +1,11 @@
 // Layer 5: a file of another station's rows, and a verdict for each (document 02, T-06).
 #![tactic(auto)]
 
-ghost use Rattle.std.specs.Prelude.{◌≡◌, suc, ◌≤◌, ◌<◌, length};
-ghost use Rattle.files_formats.specs.Rows.{checked_width, most_checked, checked_place};
+ghost use Rattle.std.specs.Prelude.{◌≡◌, ◌+◌, ◌*◌, ◌≤◌, ◌<◌, length};
+ghost use Rattle.files_formats.specs.Rows.{checked_width, checked_place};
 ghost use Rattle.files_check.specs.RowsFile.{
   rows_check,
+  row_at,
   fields_at,
   verdict_of,
   verdict_at,
@@ -34,13 +35,22 @@ fn check_rows(file: &[u8]) -> Result<(), Fault>
     )
 }
 
-// The words of a row from a place on, as many as the run has.
-fn read_fields(file: &[u8], place: usize, words: &mut [u64])
-    requires { (place < checked_place (suc most_checked)) × (length words.old ≤ checked_width) }
-    ensures { words.new ≡ fields_at file.now place (length words.old) }
+// Row k of a file that has it.
+fn row_at(file: &[u8], k: usize) -> &[u8]
+    requires { checked_place k + 8 * checked_width ≤ length file.now }
+    ensures { result.now ≡ row_at file.now k }
+{
+    let at = CHECKED_COUNT_PLACE + 8 + 8 * (k * CHECKED_WIDTH);
+    &file[at..at + 8 * CHECKED_WIDTH]
+}
+
+// The words of a row from a column on, as many as the run has.
+fn read_fields(row: &[u8], column: usize, words: &mut [u64])
+    requires { (column < checked_width) × (length words.old ≤ checked_width) }
+    ensures { words.new ≡ fields_at row.now (8 * column) (length words.old) }
 {
     for j in 0..words.len() {
-        words[j] = word_at(file, place + 8 * j);
+        words[j] = word_at(row, 8 * column + 8 * j);
     }
 }
 
@@ -54,20 +64,20 @@ fn verdict_of(given: [u64; 8], anomaly: u64, nine: [u64; 9]) -> u64
 
 // The verdict on row k.
 fn verdict_at(file: &[u8], k: usize) -> u64
-    requires { k ≤ most_checked }
+    requires { checked_place k + 8 * checked_width ≤ length file.now }
     ensures { result ≡ verdict_at file.now k }
 {
-    let place = CHECKED_COUNT_PLACE + 8 + 8 * (k * CHECKED_WIDTH);
+    let row = row_at(file, k);
     let mut given = [0; GIVEN_WORDS];
-    read_fields(file, place, &mut given);
+    read_fields(row, 0, &mut given);
     let mut nine = [0; CHECKED_FIGURES];
-    read_fields(file, place + 8 * CHECKED_FIGURE, &mut nine);
-    verdict_of(given, word_at(file, place + 8 * CHECKED_ANOMALY), nine)
+    read_fields(row, CHECKED_FIGURE, &mut nine);
+    verdict_of(given, word_at(row, 8 * CHECKED_ANOMALY), nine)
 }
 
 // The verdicts on so many rows, one after another, to the front of a run.
 fn put_verdicts(file: &[u8], rows: usize, verdicts: &mut [u64])
-    requires { (rows ≤ most_checked) × (rows ≤ length verdicts.old) }
+    requires { (checked_place rows ≤ length file.now) × (rows ≤ length verdicts.old) }
     ensures { verdicts.new ≡ with_verdicts file.now rows verdicts.old }
 {
     for k in 0..rows {

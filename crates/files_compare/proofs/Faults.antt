@@ -1,5 +1,5 @@
 -- What is wrong with a result file that is refused, and where.
-use Rattle.std.specs.Prelude.{ℕ, ◌≡◌, ◌*◌, ◌≤◌, ◌<◌, ◌⊎◌, List, leb, length}
+use Rattle.std.specs.Prelude.{ℕ, ◌≡◌, ◌*◌, ◌≤◌, ◌<◌, List, leb, length}
 use Rattle.std.proofs.Common.{sym, ap, ◌∙◌, inl, inr, arith}
 use mathlib.Core.Logic.{⊎_elim}
 use borrow.Author.Tests.{leb-true, leb-false, eqb-true, eqb-false}

@@ -48,7 +48,7 @@ pub put_verdicts-requires : goal.put_verdicts-requires
 put_verdicts-requires c =
     let passed = sym c.check_rows.ensures ∙ c.in_ok-check_rows.was in
     let room = needed _ RoomTooShort _ (sym c.need.ensures ∙ c.in_ok-need.was) in
-    (omega (arith, c.word_at-rows.ensures, (sound_so c.args.file.now passed).few), leb-true _ _ room)
+    (omega (arith, c.word_at-rows.ensures, (sound_so c.args.file.now passed).size), leb-true _ _ room)
 
 pub returns : goal.returns
 returns c =

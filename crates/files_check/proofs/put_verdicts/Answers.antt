@@ -6,6 +6,9 @@ use Rattle.files_check.proofs.put_verdicts.Goals as goal
 pub loop-k-init : goal.loop-k-init
 loop-k-init c = start (verdict_at c.args.file.now) c.args.verdicts.now
 
+pub verdict_at-requires : goal.verdict_at-requires
+verdict_at-requires c = omega (arith, c.requires.0, c.loop-k-test.true)
+
 pub loop-k-preserved : goal.loop-k-preserved
 loop-k-preserved c =
     let a = c.args in
