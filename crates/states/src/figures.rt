@@ -2,7 +2,8 @@
 use series::Anomaly;
 use states_arcs::{Arc, Results};
 
-// Where the anomaly of an interval comes from: it is searched for, or given.
+// Where the anomaly of an interval comes from: it is searched for, or given. An enum, and not a trait that `reach` takes: made for each of two types, the way to
+// an arc costs 1 in 20 of a propagation more, with `#[inline]` on what it calls too.
 #[derive(Clone, Copy)]
 pub enum Seeking {
     Search,

@@ -14,14 +14,10 @@ use Rattle.series.specs.declared.figures.Seconds.{Seconds}
 use Rattle.search_points.specs.declared.figures.Initial.{Initial}
 use Rattle.bits.specs.declared.runs.Sought.TheVariants.{NotFinite}
 use Rattle.states_revolutions.specs.Revolutions.{course_of}
-use Rattle.states_start.specs.declared.figures.Vector.{Vector}
+unfoldable pub use Rattle.states_start.specs.Vectors.{dot}
 use Rattle.states_start.specs.declared.figures.State.{State}
 use Rattle.states_start.specs.declared.figures.Orbit.{Orbit}
 use Rattle.states_start.specs.declared.figures.Begun.{Begun}
-
--- "(x·x+y·y)+z·z", "σ0 = x·vx+y·vy+z·vz" and "v² = vx·vx+vy·vy+vz·vz" are the same formula: sums "group from the left".
-unfoldable pub dot : Vector → Vector → Float
-dot a b = (a.x ⊗ b.x ⊕ a.y ⊗ b.y) ⊕ a.z ⊗ b.z
 
 -- T-04: the period is the state's, and worked out from its initial figures after refusals 3 and 4.
 abbrev pub start_from : State → Initial → Begun

@@ -1,8 +1,7 @@
 // What comes in, and what is known of it before the search. Lengths are in km, times in s.
-use std::ops::{Add, Div, Mul};
-
 use search_points::Initial;
 use states_revolutions::{Revolution, WholeInterval};
+use std::ops::{Add, Div, Mul};
 
 // A position (km), a velocity (km/s) or an acceleration (km/s^2).
 #[derive(Clone, Copy)]
@@ -10,6 +9,19 @@ pub struct Vector {
     pub x: f64,
     pub y: f64,
     pub z: f64,
+}
+
+impl Vector {
+    ghost use Rattle.std.specs.Prelude.{◌≡◌};
+    ghost use Rattle.states_start.specs.Vectors.{dot};
+
+    // The sum of the products of like components, from the left.
+    #[tactic(auto, unfolding(crate::specs::Vectors::dot))]
+    pub(crate) fn dot(self, other: Vector) -> f64
+        ensures { result ≡ dot self other }
+    {
+        self.x * other.x + self.y * other.y + self.z * other.z
+    }
 }
 
 impl Mul<Vector> for f64 {
