@@ -7,10 +7,9 @@ use mathlib.Core.Bool.{Bool, true}
 use mathlib.Core.Logic.{◌⊎◌, inl, inr}
 use mathlib.Core.Path.{◌≡◌, sym, ap, ap₂, ◌∙◌}
 use mathlib.Core.List.{List, []}
-use borrow.Author.Tests.{leb-true, leb-false, le-leb, lt-leb, lt-ltb, le-ltb}
-use lib.Dec.{leb, ltb}
+use borrow.Author.Tests.{leb-true, leb-false, le-leb, lt-leb}
+use lib.Dec.{leb}
 use lib.ListN.{length}
-use Rattle.bits.specs.Choice.{pick}
 use Rattle.files_words.specs.Bytes.{word_at, words_from}
 use Rattle.files_words.proofs.WordLaws.{length-words_from}
 use Rattle.bits.specs.declared.refusal.Refusal.{Refusal}
@@ -54,32 +53,6 @@ module _ (file : List ℕ) (place limit : ℕ) where
 
     pub words_within : place + 8 + 8 * (word_at file place * width) ≤ length file
     words_within = omega (arith, words_there_lem, length-words_from file (place + 8), count_whole)
-
--- ---- How many of n words are there, of W that a file has: the fewer of the two.
-pub the_fewer : (W n r : ℕ) → (W < n → r ≡ W) → (n ≤ W → r ≡ n) → r ≡ pick (ltb W n) W n
-the_fewer W n r few all = elim (dec_lt W n) [
-  | yes h ↦ few h ∙ sym (simp (lt-ltb W n h))
-  | no h ↦ let up : n ≤ W = omega arith in all up ∙ sym (simp (le-ltb W n up))
-]
-
-module _ (W n r : ℕ) (e : r ≡ pick (ltb W n) W n) where
-  pub few_there : (r ≤ n) × (r ≤ W)
-  few_there = elim (dec_lt W n) [
-    | yes l ↦ let same : r ≡ W = e ∙ simp (lt-ltb W n l) in (omega arith, omega arith)
-    | no g ↦ let same : r ≡ n = e ∙ simp (le-ltb W n (omega arith)) in (omega arith, omega arith)
-  ]
-
-  pub not_all : r < n → (r ≡ W) × (W < n)
-  not_all h = elim (dec_lt W n) [
-    | yes l ↦ (e ∙ simp (lt-ltb W n l), l)
-    | no g ↦ let same : r ≡ n = e ∙ simp (le-ltb W n (omega arith)) in absurd (omega arith)
-  ]
-
-  pub all_there : n ≤ r → (r ≡ n) × (n ≤ W)
-  all_there h = elim (dec_lt W n) [
-    | yes l ↦ let same : r ≡ W = e ∙ simp (lt-ltb W n l) in absurd (omega arith)
-    | no g ↦ (e ∙ simp (le-ltb W n (omega arith)), omega arith)
-  ]
 
 -- ---- Records of any words, to the end of a file: the count, then the rest.
 module _ (file : List ℕ) (place limit width : ℕ) where

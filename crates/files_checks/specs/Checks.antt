@@ -1,7 +1,6 @@
 -- Document 01, "Element file, edition 1": what a check finds, and the check of what stands after a count word. It is one check for every counted section of
 -- every file: the limit of its count, the words of a record and the rule for its words are given.
-use Rattle.std.specs.Prelude.{ℕ, zero, suc, ◌≡◌, ◌+◌, ◌*◌, Bool, true, false, ⊤, Option, None, Some, Result, Ok, Err, List, [], ◌∷◌, ◌++◌, ltb, leb, length}
-use Rattle.bits.specs.Choice.{pick}
+use Rattle.std.specs.Prelude.{ℕ, zero, suc, ◌≡◌, ◌+◌, ◌*◌, min, Bool, true, false, ⊤, Option, None, Some, Result, Ok, Err, List, [], ◌∷◌, ◌++◌, leb, length}
 use Rattle.bits.specs.declared.refusal.Refusal.{Refusal}
 use Rattle.bits.specs.declared.refusal.Refusal.TheVariants.{WordMissing, UnknownEdition, TooMany, BytesLeft}
 use Rattle.bits.specs.Refusal.{number_of}
@@ -82,7 +81,7 @@ filled_check file place limit width =
 
 -- ---- How many of so many words a file has from a place on; and what an inner step of the code answers: those words, of which nothing is asked, then the end.
 abbrev pub words_there : List ℕ → (place count : ℕ) → ℕ
-words_there file place count = let whole = length (words_from file place) in pick (ltb whole count) whole count
+words_there file place count = min (length (words_from file place)) count
 
 abbrev pub rest_check : List ℕ → (place count : ℕ) → Check
 rest_check file place count = walk unasked place [] count (words_from file place) ⟫ end_check file (place + 8 * count)
