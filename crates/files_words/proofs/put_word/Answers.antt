@@ -1,16 +1,11 @@
 -- By whether there is room.
 use Prim.Native.Nat.{◌+◌}
 use mathlib.Core.Path.{sym, ◌∙◌}
-use borrow.Author.Tests.{leb-true, leb-false}
+use borrow.Author.Tests.{leb-false}
 use lib.ListN.{length}
 use Rattle.files_words.specs.Bytes.{bytes_of}
 use Rattle.files_words.proofs.PutLaws.{put_outside}
 use Rattle.files_words.proofs.put_word.Goals as goal
-
-pub put_bytes-requires : goal.put_bytes-requires
-put_bytes-requires c =
-    let a = c.args in
-    leb-true (a.place + 8) (length a.room.now) (sym c.is_whole.ensures ∙ c.if-is_whole.true)
 
 pub returns-else-is_whole : goal.returns-else-is_whole
 unfolding bytes_of
