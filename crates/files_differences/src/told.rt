@@ -90,7 +90,7 @@ pub fn row_kind_of(left: u64, right: u64) -> RowKind
     }
 }
 
-// The word of a row's kind.
+// The word of a row's kind: a function, since docs/STATEMENTS.md names it with its law and its wrong programs.
 pub fn row_kind_word(kind: RowKind) -> u64
     ensures { result ≡ row_kind_word kind }
 {

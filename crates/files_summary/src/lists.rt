@@ -1,4 +1,5 @@
 // A list of entries kept beside a run of states, in the form that document 01 names: a slice of summary structs, updated at one entry.
+// The update is the generic one of `changes`; it has a name here, and one in `words`, since each has a law and wrong programs of its own (docs/STATEMENTS.md).
 ghost use Rattle.std.specs.Prelude.{◌≡◌, length, set};
 ghost use Rattle.files_summary.specs.Changes.{append, withdraw, change_beside, run_beside, settled_by};
 

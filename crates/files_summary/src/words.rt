@@ -1,4 +1,4 @@
-// A list of entries as words, so many of them each, kept beside a run of states: what crosses into C.
+// A list of entries as words, so many of them each, kept beside a run of states: what crosses into C. A change is the generic one of `changes`, as in `lists`.
 ghost use Rattle.std.specs.Prelude.{◌≡◌, ◌*◌, length};
 ghost use Rattle.files_records.specs.Records.{records_of};
 ghost use Rattle.files_formats.specs.Rows.{entry_width};
