@@ -5,6 +5,7 @@ ghost use Rattle.states_partials.specs.Matrix.{matrix_of, matrix_divisors};
 
 use bits::words::word_of;
 use search_points::Initial;
+use series::Sums;
 use states_arcs::{Arc, Factors};
 
 // A11 to A33 of document 01: A11 in 1/(km^2 s), A12 and A21 in 1/km^2, A13, A22 and A31 in s/km^2, A23 and A32 in s^2/km^2, A33 in s^3/km^2.
@@ -26,7 +27,6 @@ pub struct Matrix {
 pub fn matrix_of(arc: Arc, u: f64) -> Matrix
     ensures { result ≡ matrix_of arc u }
 {
-    let Arc { r, c, s, .. } = arc;
     let Initial { mu, r0, .. } = arc.start.initial;
     let Factors {
         f,
@@ -34,19 +34,22 @@ pub fn matrix_of(arc: Arc, u: f64) -> Matrix
         fprime,
         gprime,
     } = arc.factors;
+    let Sums { s1, s2, .. } = arc.s;
+    let c0 = arc.c.c0;
+    let r = arc.r;
     let r_cubed = (r * r) * r;
     let r0_cubed = (r0 * r0) * r0;
     Matrix {
-        a11: ((c.c0 / (r * r0) + 1.0 / (r0 * r0)) + 1.0 / (r * r)) * fprime
+        a11: ((c0 / (r * r0) + 1.0 / (r0 * r0)) + 1.0 / (r * r)) * fprime
             - ((mu * mu) * u) / (r_cubed * r0_cubed),
-        a12: (fprime * s.s1 + (gprime - 1.0) / r) / r,
-        a13: ((gprime - 1.0) * s.s1) / r - (mu * u) / r_cubed,
-        a21: -((fprime * s.s1 + (f - 1.0) / r0) / r0),
-        a22: -(fprime * s.s2),
-        a23: -((gprime - 1.0) * s.s2),
-        a31: ((f - 1.0) * s.s1) / r0 - (mu * u) / r0_cubed,
-        a32: (f - 1.0) * s.s2,
-        a33: g * s.s2 - u,
+        a12: (fprime * s1 + (gprime - 1.0) / r) / r,
+        a13: ((gprime - 1.0) * s1) / r - (mu * u) / r_cubed,
+        a21: -((fprime * s1 + (f - 1.0) / r0) / r0),
+        a22: -(fprime * s2),
+        a23: -((gprime - 1.0) * s2),
+        a31: ((f - 1.0) * s1) / r0 - (mu * u) / r0_cubed,
+        a32: (f - 1.0) * s2,
+        a33: g * s2 - u,
     }
 }
 
