@@ -12,6 +12,7 @@ use lib.Seq.{get_or_at}
 use lib.Ieee.{Float, nan}
 use Rattle.std.specs.Prelude.{Result, Ok, Err}
 use Rattle.bits.specs.Choice.{pick}
+use Rattle.bits.specs.Refusal.{number_in}
 use Rattle.bits.specs.Words.{words_of}
 use Rattle.bits.specs.Runs.{has}
 use Rattle.bits.specs.declared.runs.Sought.TheVariants.{Zero, NotFinite}
@@ -21,7 +22,7 @@ use Rattle.states_arcs.specs.declared.figures.Arc.{Arc}
 use Rattle.states_partials.specs.U.{u_of, u_refused}
 use Rattle.states_partials.specs.Matrix.{matrix_of, matrix_divisors}
 use Rattle.states_partials.specs.Entries.{entry_of, up_to, entries_of}
-use Rattle.states_partials.specs.Partials.{partials_refusal, lent_after}
+use Rattle.states_partials.specs.Partials.{partials_refusal, lent_by, lent_after}
 
 length-up_to : (n : ℕ) (f : ℕ → Float) → length (up_to n f) ≡ n
 unfolding up_to
@@ -61,6 +62,10 @@ zero_or_eight arc run h = rw (eq-eqb (length run) 36 h) (go (has Zero (words_of 
     go false false false = inl refl
 
 -- and where they are refused, the run is as it was.
-pub kept : (arc : Arc) (run : List ℕ) (r : Refusal) → partials_refusal arc run ≡ Err r → lent_after arc run ≡ run
+pub kept : (arc : Arc) (run : List ℕ) → (number_in (partials_refusal arc run) ≡ 0 → ⊥) → lent_after arc run ≡ run
 unfolding lent_after
-kept arc run r e = rw e
+kept arc run = go (partials_refusal arc run)
+  where
+    go : (answer : Result (Unit {0}) Refusal) → (number_in answer ≡ 0 → ⊥) → lent_by answer arc run ≡ run
+    go (Ok u) h = absurd (h refl)
+    go (Err r) h = refl
