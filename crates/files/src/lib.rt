@@ -102,6 +102,7 @@ fn put_file(room: &mut [u8], shape: Shape, sections: Sections)
 }
 
 // The three sections written as an element file at the start of a room: its length, or the first refusal, and then nothing is written.
+// The runs are three parameters, as the C call has them.
 #[tactic(auto, unfolding(crate::specs::Writer::writing_of, crate::specs::Writer::room_of, crate::specs::Writer::file_of))]
 pub fn write_file(
     edition: Edition,

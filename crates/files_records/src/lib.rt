@@ -30,7 +30,7 @@ pub fn put_record(run: &mut [u64], w: usize, i: usize, words: &[u64])
     }
 }
 
-// The followers of a record moved down one record, where the run has as many records.
+// The followers of a record moved down one record, where the run has as many records. The library has no copy_within.
 fn move_followers(run: &mut [u64], w: usize, count: usize, which: usize)
     requires { (which < count) × (count * w ≤ length run.old) }
     ensures { run.new ≡ moved_down w run.old count which }

@@ -11,7 +11,7 @@ pub fn is_whole(file: &[u8], place: usize) -> bool
     8 <= file.len().saturating_sub(place)
 }
 
-// The word at a place, or 0 where it is not whole.
+// The word at a place, or 0 where it is not whole. It is no Option, since the definition `word_at` and the laws on it give 0.
 pub fn word_at(file: &[u8], place: usize) -> u64
     ensures { result ≡ word_at file.now place }
 {
@@ -41,7 +41,8 @@ pub fn put_word(room: &mut [u8], place: usize, word: u64)
     }
 }
 
-// The words of a run put one after another from a place on where there is room for them.
+// The words of a run put one after another from a place on where there is room for them. The room is indexed, since the library does not say what it
+// holds after its chunks were lent.
 fn put_each(room: &mut [u8], place: usize, run: &[u64])
     requires { place + 8 * length run.now ≤ length room.old }
     ensures { room.new ≡ put room.old place (as_bytes run.now) }
