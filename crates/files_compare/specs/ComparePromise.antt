@@ -54,8 +54,10 @@ IsRefused (Err refused) number s place = (number_of refused.fault.refusal ≡ nu
 
 pub record InOrder (left right : List ℕ) (room : ℕ) : Type 0 where
   pub left_first : (fault : Fault) → results_check left ≡ Err fault → comparison_of left right room ≡ Err (of_side side.Left fault)
-  pub then_right : results_check left ≡ sound → (fault : Fault) → results_check right ≡ Err fault → comparison_of left right room ≡ Err (of_side side.Right fault)
-  pub then_51 : results_check left ≡ sound → results_check right ≡ sound → (row_count left ≡ row_count right → ⊥) → IsRefused (comparison_of left right room) 51 None 0
+  pub then_right : results_check left ≡ sound → (fault : Fault) → results_check right ≡ Err fault →
+      comparison_of left right room ≡ Err (of_side side.Right fault)
+  pub then_51 : results_check left ≡ sound → results_check right ≡ sound → (row_count left ≡ row_count right → ⊥) →
+      IsRefused (comparison_of left right room) 51 None 0
   pub then_26 : results_check left ≡ sound → results_check right ≡ sound → row_count left ≡ row_count right → room < words_needed left →
       IsRefused (comparison_of left right room) 26 None (words_needed left)
   pub else_compared : results_check left ≡ sound → results_check right ≡ sound → row_count left ≡ row_count right → words_needed left ≤ room →
@@ -67,7 +69,8 @@ RefusesInOrder = (left right : List ℕ) (room : ℕ) → InOrder left right roo
 -- Demand 1: "lent memory unchanged" under every refusal; else the words of the rows, and behind them what the run held.
 pub record KeptOrTold (left right run : List ℕ) : Type 0 where
   pub kept : (r : Refused) → comparison_of left right (length run) ≡ Err r → run_after left right run ≡ run
-  pub told : (c : Compared) → comparison_of left right (length run) ≡ Ok c → run_after left right run ≡ rows_told left right (row_count left) ++ drop (words_needed left) run
+  pub told : (c : Compared) → comparison_of left right (length run) ≡ Ok c →
+      run_after left right run ≡ rows_told left right (row_count left) ++ drop (words_needed left) run
 
 abbrev pub KeepsOrTells : Type 0
 KeepsOrTells = (left right run : List ℕ) → KeptOrTold left right run
@@ -167,7 +170,8 @@ FiguresOf left right k (l ∷ ls) (r ∷ rs) =
 
 -- Files with the same number of rows, 1,500 at most, are compared where the run is long enough; it then holds the words of all rows, in their order.
 pub record RowsCompared (ls rs : List Row) (run : List ℕ) : Type 0 where
-  pub answer : comparison_of (file_of ls) (file_of rs) (length run) ≡ Ok (record { count = length ls; largest = largest_of (file_of ls) (file_of rs) (length ls) })
+  pub answer : comparison_of (file_of ls) (file_of rs) (length run)
+      ≡ Ok (record { count = length ls; largest = largest_of (file_of ls) (file_of rs) (length ls) })
   pub in_run : run_after (file_of ls) (file_of rs) run ≡ all_between ls rs ++ drop (19 * length ls) run
   pub in_figures : FiguresOf (file_of ls) (file_of rs) 0 ls rs
 

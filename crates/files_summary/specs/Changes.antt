@@ -53,8 +53,8 @@ withdraw_refusal which run roster listed =
     ⟫ refuse (ltb which roster.count) StatesInUse
     ⟫ refuse (ltb (centre_of roster.edition (state_at roster.edition run which)) roster.centres) NoSuchRecord
 
--- ---- A change that is asked for: a state to append, or the number of one to withdraw. Its refusal, if any, and its centre; and, once it is done, the run and how
--- many states are in use. A state is appended as the next record; the followers of one that is withdrawn are one record lower.
+-- ---- A change that is asked for: a state to append, or the number of one to withdraw. Its refusal, if any, and its centre; and, once it is done, the run and
+-- how many states are in use. A state is appended as the next record; the followers of one that is withdrawn are one record lower.
 pub data Asked : Type 0 where
   append : (state : List ℕ) → Asked
   withdraw : (which : ℕ) → Asked
