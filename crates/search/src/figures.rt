@@ -3,7 +3,7 @@ use bits::Refusal;
 use series::Anomaly;
 
 // The anomaly that is found, with the trial points used.
-#[derive(Clone, Copy)]
+#[derive(Clone, Copy, Debug, PartialEq)]
 pub struct Found {
     pub psi: Anomaly,
     pub points: u64,

@@ -77,7 +77,7 @@ pub fn unevaluated_as(sort: Sort) -> Trial
 }
 
 // What a search is over: the initial figures of a state, and the interval that is searched.
-#[derive(Clone, Copy)]
+#[derive(Clone, Copy, Debug, PartialEq)]
 pub struct Passage {
     pub initial: Initial,
     pub tau: Seconds,

@@ -8,14 +8,14 @@ use search_points::{Sort, Terms, Trial};
 use std::ops::ControlFlow::{self, Break, Continue};
 
 // A tried place with its time error (s).
-#[derive(Clone, Copy)]
+#[derive(Clone, Copy, Debug, PartialEq)]
 pub struct End {
     pub place: u64,
     pub error: f64,
 }
 
 // A short end and a past end; which of them was tried last, and what the radius there is made of.
-#[derive(Clone, Copy)]
+#[derive(Clone, Copy, Debug, PartialEq)]
 pub struct Pair {
     pub short: End,
     pub past: End,
@@ -24,7 +24,7 @@ pub struct Pair {
 }
 
 // Where the search stands, with the points used so far.
-#[derive(Clone, Copy)]
+#[derive(Clone, Copy, Debug, PartialEq)]
 pub enum Next {
     Between(Pair, u64),
     Exact(u64, u64),
