@@ -37,6 +37,7 @@ pub fn search(initial: Initial, tau: Seconds, h: Anomaly) -> Result<Found, Refus
 }
 
 // Outward: the 41 places from the first on, a doubling apart, tried in order until one isn't short. Place 0 is short, with −τ for its error.
+// No `?` after a step: what it breaks with is the answer itself, and 41 short points are an end like the others.
 fn outward(passage: Passage, first: u64) -> Next
     requires { first < 2 ^ 63 }
     ensures { result ≡ counted 0 (outward_at passage.initial passage.tau first) }

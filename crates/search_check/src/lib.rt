@@ -33,6 +33,7 @@ fn short_passes(passage: Passage, short: End) -> bool
 }
 
 // Whether a past end passes: its neighbour one place in has to be short, and the past end the nearer of the two.
+// It is no instance of the one above: the sort that is asked for, the side and the order of the two ends are all others, so little would be shared.
 #[tactic(auto, unfolding(crate::specs::Passing::past_passes))]
 fn past_passes(passage: Passage, past: End) -> bool
     requires { 0 < past.place }

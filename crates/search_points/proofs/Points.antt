@@ -12,15 +12,11 @@ use Rattle.bits.specs.Arithmetic.{◌⊗◌, n0, is_finite}
 use Rattle.bits.specs.Words.{field_of, infinity}
 use Rattle.bits.proofs.Line.{eq_neither}
 use Rattle.bits.proofs.Order.{one_way, not_itself}
-use Rattle.series.specs.Series.{first_l, coefficients_of, sums_of}
-use Rattle.series.specs.declared.figures.Anomaly.{Anomaly}
-use Rattle.series.specs.declared.figures.FirstSums.{FirstSums}
 use Rattle.series.specs.declared.figures.Seconds.{Seconds}
 use Rattle.search_points.specs.declared.figures.Initial.{Initial}
 use Rattle.search_points.specs.declared.figures.Sort.TheVariants.{Short, Unreadable}
-use Rattle.search_points.specs.declared.figures.Trial.{Trial}
 use Rattle.search_points.specs.Meaning.{is_opposite}
-use Rattle.search_points.specs.Trial.{anomaly_at, sort_of, unevaluated, trial_of, evaluated_at, trial_at}
+use Rattle.search_points.specs.Trial.{anomaly_at, sort_of, unevaluated, evaluated_at, trial_at}
 
 -- ---- A word with its sign bit set is the negative of the word without it.
 neg_odd : (d : ℕ) (q k l : ℕ) → odd d true q k l ≡ neg (odd d false q k l)
@@ -100,18 +96,6 @@ opposite_sort tau x e = let f = signed (lt tau.0 n0) e in simp (f.0, f.1, e)
     signed : (back : Bool) → pick back (lt n0 x) (lt x n0) ≡ true → (ne x x ≡ false) × (eq x n0 ≡ false)
     signed true h = above x h
     signed false h = under x h
-
--- ---- The point of psi by what the parts of the code answer.
-module _ (i : Initial) (tau : Seconds) (psi : Anomaly) where
-  pub finite_point : (f : FirstSums) {r : Trial} → is_finite (first_l i.alpha psi) ≡ true
-      → f ≡ record { c0 = (coefficients_of i.alpha psi).c0; sums = sums_of psi (coefficients_of i.alpha psi) }
-      → r ≡ trial_of i tau f.c0 f.sums → r ≡ evaluated_at i tau psi
-  unfolding evaluated_at
-  finite_point f h e g = simp h (g ∙ ap (λ (x : FirstSums). trial_of i tau x.c0 x.sums) e)
-
-  pub no_point : {r : Trial} → is_finite (first_l i.alpha psi) ≡ false → r ≡ unevaluated Unreadable → r ≡ evaluated_at i tau psi
-  unfolding evaluated_at
-  no_point h g = simp h g
 
 -- ---- A psi that is not finite leaves no finite L, so a place above 0 needs no test of its own.
 beyond : (i : Initial) (tau : Seconds) (place : ℕ) → leb infinity place ≡ true → evaluated_at i tau (anomaly_at tau place) ≡ unevaluated Unreadable

@@ -8,6 +8,7 @@ use series::Sums;
 
 impl Passage {
     // R, the time error (s) of the anomaly whose sums are s.
+    #[tactic(auto, unfolding(crate::specs::Residual::time_error_of))]
     pub fn time_error(self, s: Sums) -> f64
         ensures { result ≡ time_error_of self.initial self.tau s }
     {
@@ -17,6 +18,7 @@ impl Passage {
 }
 
 // r, the radius (km) at the anomaly whose c0, s1 and s2 are t.
+#[tactic(auto, unfolding(crate::specs::Residual::radius_of))]
 pub fn radius(initial: Initial, t: Terms) -> f64
     ensures { result ≡ radius_of initial t }
 {

@@ -2,7 +2,7 @@
 use Prim.Native.Nat.{ℕ}
 use mathlib.Core.Path.{◌≡◌, refl}
 use mathlib.Core.Bool.{Bool, true, false}
-use lib.Ieee.{Float, binary64, eq, to_bits}
+use lib.Ieee.{Float, eq}
 use Rattle.std.specs.Prelude.{Option, None, Some}
 use Rattle.std.specs.Option.{option_or}
 use Rattle.bits.specs.Choice.{pick}
@@ -10,7 +10,6 @@ use Rattle.bits.specs.Arithmetic.{◌⊖◌, n0, is_finite}
 use Rattle.bits.specs.Words.{place_of}
 use Rattle.series.specs.declared.figures.Seconds.{Seconds}
 use Rattle.search_points.specs.declared.figures.Initial.{Initial}
-use Rattle.search_points.specs.Trial.{has_sign}
 use Rattle.search_rule.specs.declared.pair.Pair.{Pair}
 use Rattle.search_rule.specs.Rule.{is_inside}
 use Rattle.search_rule.proofs.Turns.{Fits}
@@ -35,10 +34,7 @@ module _ (s : Pair) where
 
   offered_fits : (tau : Seconds) (x : Float) → Fits s (offered_at tau s x)
   unfolding offered_at
-  offered_fits tau x =
-      fits_pick (is_finite x) _ None
-      (fits_pick (has_sign tau (to_bits binary64 x)) (inside_of s (place_of x)) None (inside_fits (place_of x)) tt)
-      tt
+  offered_fits tau x = fits_pick (is_finite x) _ None (fits_pick _ (inside_of s (place_of x)) None (inside_fits (place_of x)) tt) tt
 
   module _ (i : Initial) (tau : Seconds) where
     radius_fits : Fits s (by_radius i tau s)

@@ -83,6 +83,7 @@ pub fn moved_by(pair: Pair, place: u64, t: Trial, points: u64) -> Next
 }
 
 // The end whose time error has the smaller magnitude, and the short one on a tie.
+#[tactic(auto, unfolding(crate::specs::Nearer::nearer_end))]
 pub fn nearer_end(short: End, past: End) -> End
     ensures { result ≡ nearer_end short past }
 {
