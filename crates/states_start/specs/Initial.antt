@@ -3,7 +3,7 @@ use Rattle.std.specs.Prelude.{◌≡◌, refl, List, [], ◌∷◌, ◌^◌, pos
 use Rattle.std.specs.Float.{binary64}
 use Rattle.std.specs.Float.Ieee.{div, eq, of_bits, of_int}
 use Rattle.bits.specs.Choice.{pick}
-use Rattle.bits.specs.Arithmetic.{◌⊕◌, ◌⊖◌, ◌⊗◌, ◌⊘◌, n0, n1, n2, magnitude}
+use Rattle.bits.specs.Arithmetic.{◌⊖◌, ◌⊗◌, ◌⊘◌, n0, n1, n2, magnitude}
 use Rattle.bits.specs.Words.{words_of}
 use Rattle.bits.specs.Runs.{has}
 use Rattle.bits.specs.Root.{root_of}
