@@ -17,11 +17,7 @@ say() {
 # ---- Promises and wrong programs. A promise is CRATE FUNCTION, or FUNCTION of the crate whose program it is; a function may have its type or its
 # module before it: Shape::place, words::append. A program shows nothing; what it promises is the step between its reading and its writing.
 
-# While there is one edition, its function has no other answer to give, and no program of it can be wrong.
-one_edition='files_formats elements.edition_of'
-
-sh tests/tree/promises.sh list >"$room/all" || exit 1
-grep -vx "$one_edition" "$room/all" >"$room/shown"
+sh tests/tree/promises.sh list >"$room/shown" || exit 1
 echo 'propagate results_of' >>"$room/shown"
 for edit in crates/*/must-fail/*.edit tests/wrong/*/*.edit; do
     crate=$(echo "$edit" | sed 's|^crates/||; s|^tests/wrong/||; s|/.*||')

@@ -22,7 +22,7 @@ fn is_sought(word: u64, sought: Sought) -> bool
     }
 }
 
-// The number, from 0, of the first word that is sought; the length of a run that has none.
+// The number, from 0, of the first word that is sought; the length of a run that has none, and no Option: the laws `before_first` and `is_first` say it so.
 pub fn first_of(words: &[u64], sought: Sought) -> usize
     ensures { result ≡ first_of sought words.now }
 {

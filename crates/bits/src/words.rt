@@ -1,4 +1,5 @@
-// A double crosses every border of this project as its 64-bit word: a sign bit, 11 bits of exponent field, 52 digits.
+// A double crosses every border of this project as its 64-bit word: a sign bit, 11 bits of exponent field, 52 digits. Some functions here are a call of the
+// library each, and stand for their promises: in terms of the definitions, for doubles of any bits, and with one answer.
 ghost use Rattle.std.specs.Prelude.{◌≡◌};
 ghost use Rattle.std.specs.Float.{binary64};
 ghost use Rattle.std.specs.Float.Ieee.{of_bits, to_bits};

@@ -1,6 +1,10 @@
 -- Each public function leaves one answer open.
 use mathlib.Core.Path.{refl, sym, ◌∙◌}
 use Rattle.bits.specs.OneAnswer.{OneAnswer}
+use Rattle.files_formats.proofs.elements.U64FromEdition.from.Kinds as from-kinds
+use Rattle.files_formats.proofs.elements.U64FromEdition.from.Reads as from-reads
+use Rattle.files_formats.proofs.elements.EditionTryFromU64.try_from.Kinds as try-from-kinds
+use Rattle.files_formats.proofs.elements.EditionTryFromU64.try_from.Reads as try-from-reads
 use Rattle.files_formats.proofs.elements.limit.Kinds as limit-kinds
 use Rattle.files_formats.proofs.elements.limit.Reads as limit-reads
 use Rattle.files_formats.proofs.elements.width.Kinds as width-kinds
@@ -23,6 +27,12 @@ use Rattle.files_formats.proofs.files.check_section.Kinds as check-section-kinds
 use Rattle.files_formats.proofs.files.check_section.Reads as check-section-reads
 use Rattle.files_formats.proofs.runs.check_run.Kinds as check-run-kinds
 use Rattle.files_formats.proofs.runs.check_run.Reads as check-run-reads
+
+pub from_one : OneAnswer 0 from-kinds.ps from-kinds.r from-reads.Post
+from_one κs a x y v w p q = (p ∙ sym q, refl)
+
+pub try_from_one : OneAnswer 0 try-from-kinds.ps try-from-kinds.r try-from-reads.Post
+try_from_one κs a x y v w p q = (p ∙ sym q, refl)
 
 pub limit_one : OneAnswer 0 limit-kinds.ps limit-kinds.r limit-reads.Post
 limit_one κs a x y v w p q = (p ∙ sym q, refl)

@@ -2,6 +2,7 @@
 use crate::elements::MOST_REQUESTS;
 
 // A result file: its edition, the place of its count, the words of a row and the most rows.
+// Result files have this edition alone, so it is no enum.
 pub const RESULT_EDITION: u64 = 1;
 
 pub const RESULT_COUNT_PLACE: usize = 8;

@@ -54,21 +54,6 @@ module _ (run : List ℕ) (at gap : ℕ) where
   long : (j : ℕ) → Room j → j ≤ length (drop (at + gap) run)
   long j h = omega (arith, length-drop (at + gap) run)
 
-  -- What is moved next was not moved over yet.
-  untouched : (j : ℕ) → Room (suc j) → get_or (shifted j) (at + j + gap) 0 ≡ get_or (drop (at + gap) run) j 0
-  untouched j h =
-      let there : at + j + gap ≡ at + gap + j = omega arith in
-      sym (get_or-drop (at + j) (shifted j) gap 0)
-      ∙ ap (λ (l : List ℕ). get_or l gap 0) (drop-paste run at (drop (at + gap) run) j (omega arith) (long j (omega arith)))
-      ∙ get_or-drop (at + j) run gap 0
-      ∙ ap (λ (k : ℕ). get_or run k 0) there
-      ∙ sym (get_or-drop (at + gap) run j 0)
-
-  pub one_moved : (j : ℕ) → Room (suc j) → set (shifted j) (at + j) (get_or (shifted j) (at + j + gap) 0) ≡ shifted (suc j)
-  one_moved j h =
-      ap (set (shifted j) (at + j)) (untouched j h)
-      ∙ paste-suc run at (drop (at + gap) run) j 0 (omega arith) (long (suc j) h)
-
   pub all_moved : (n : ℕ) → Room n → shifted n ≡ put run at (take n (drop (at + gap) run))
   all_moved n h =
       let l : length (take n (drop (at + gap) run)) ≡ n = length-take-le n (drop (at + gap) run) (long n h) in

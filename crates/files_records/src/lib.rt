@@ -30,14 +30,13 @@ pub fn put_record(run: &mut [u64], w: usize, i: usize, words: &[u64])
     }
 }
 
-// The followers of a record moved down one record, where the run has as many records. The library has no copy_within.
+// The followers of a record moved down one record, where the run has as many records.
 fn move_followers(run: &mut [u64], w: usize, count: usize, which: usize)
     requires { (which < count) × (count * w ≤ length run.old) }
     ensures { run.new ≡ moved_down w run.old count which }
 {
-    for at in which * w..(count - 1) * w {
-        run[at] = run[at + w];
-    }
+    let at = which * w;
+    run.copy_within(at + w..count * w, at);
 }
 
 // One of so many records withdrawn: its followers move down one record, and no other word changes. Where it is not there, or the run has not so many,

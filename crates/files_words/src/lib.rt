@@ -1,4 +1,4 @@
-// Little-endian 64-bit words in runs of bytes.
+// Little-endian 64-bit words in runs of bytes. A file and a place stay two parameters: a place may be any number, so nothing is known of the two together.
 #![tactic(auto)]
 
 ghost use Rattle.std.specs.Prelude.{◌≡◌, ◌+◌, ◌*◌, ◌≤◌, leb, length};

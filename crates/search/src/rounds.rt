@@ -1,4 +1,5 @@
-// One round inward: the proposed place, where one fits, and then the halving place. A pair that comes out of it is at most half as wide.
+// One round inward: the proposed place, where one fits, and then the halving place. A pair that comes out of it is at most half as wide. A pair and the points
+// so far stay two values, as `Next` has them.
 ghost use Rattle.std.specs.Prelude.{◌≡◌, ◌<◌};
 ghost use Rattle.search_points.specs.Trial.{trial_at};
 ghost use Rattle.search_rule.specs.Rule.{attempt, tried_first, halving, counted};

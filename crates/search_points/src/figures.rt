@@ -25,7 +25,7 @@ pub enum Sort {
     Unreadable,
 }
 
-// What one trial point gives: its sort, and what the radius there is made of.
+// What one trial point gives: its sort, and what the radius there is made of. The sort does not carry that: document 01 names what its cases carry.
 #[derive(Clone, Copy, Debug, PartialEq)]
 pub struct Trial {
     pub sort: Sort,

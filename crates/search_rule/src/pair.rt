@@ -23,7 +23,7 @@ pub struct Pair {
     pub terms: Terms,
 }
 
-// Where the search stands, with the points used so far.
+// Where the search stands, with the points used so far. It is no Result: all four are ends of a history, and the definition `next_of` counts each alike.
 #[derive(Clone, Copy, Debug, PartialEq)]
 pub enum Next {
     Between(Pair, u64),

@@ -47,7 +47,7 @@ pub fn coefficients(alpha: f64, psi: Anomaly) -> Coefficients
     restored(l, reduced)
 }
 
-// c0 and the sums of the anomaly psi: all that a trial point needs. A call of its own, so that it can be compiled into the search's loop and without c4 and c5.
+// c0 and the sums of the anomaly psi: all that a trial point needs.
 pub fn first_sums(alpha: f64, psi: Anomaly) -> FirstSums
     ensures { result ≡ record { c0 = (coefficients_of alpha psi).c0; sums = sums_of psi (coefficients_of alpha psi) } }
 {

@@ -31,7 +31,9 @@ use Rattle.states_start.specs.declared.figures.Start.{Start}
 -- Demand 1: "A bad number, a zero radius, an unreachable time or a damaged file gets the one refusal that the rules give it, with zeros for figures and lent
 -- memory unchanged." Which refusal it is, and that there is one, is what the definitions of the calls say.
 abbrev pub ZerosOrAnswer : Type 0
-ZerosOrAnswer = (pt : Parting) (pr : Proposing) (words : List ℕ) → (refusal_of (propagate_by pt pr words) ≡ 0) ⊎ (results_of (propagate_by pt pr words) ≡ no_results)
+ZerosOrAnswer =
+    (pt : Parting) (pr : Proposing) (words : List ℕ) →
+    (refusal_of (propagate_by pt pr words) ≡ 0) ⊎ (results_of (propagate_by pt pr words) ≡ no_results)
 
 abbrev pub UnchangedOrAnswer : Type 0
 UnchangedOrAnswer =

@@ -5,8 +5,8 @@ ghost use Rattle.states.specs.Call.{answer_words};
 use super::figures::Answer;
 use search::Refused;
 
-// The fifteen words of an answer: refusal, points, position, velocity, end acceleration, start acceleration, psi; of a refusal, its number and its points, and +0
-// for every figure. The first eleven are a result row. Written into its callers: as a call of its own it costs 1 in 100 of a propagation.
+// The fifteen words of an answer: refusal, points, position, velocity, end acceleration, start acceleration, psi; of a refusal, its number and its points, and
+// +0 for every figure. The first eleven are a result row. Written into its callers: as a call of its own it costs 1 in 100 of a propagation.
 #[inline(always)]
 #[tactic(auto, unfolding(crate::specs::Call::answer_words))]
 pub fn words_of(answer: Result<Answer, Refused>) -> [u64; 15]

@@ -4,7 +4,7 @@ use states_revolutions::Interval;
 use states_start::{Start, State, Vector};
 
 // f (a number), g (s), f' (1/s) and g' (a number): they take a start to its end.
-#[derive(Clone, Copy)]
+#[derive(Clone, Copy, Debug, PartialEq)]
 pub struct Factors {
     pub f: f64,
     pub g: f64,
@@ -14,7 +14,7 @@ pub struct Factors {
 
 // The way from a start to its end: the start, the interval, whole and as it was searched, the found anomaly with its series and its radius r (km), the factors,
 // and the state at the end. The results and the partials are made of it.
-#[derive(Clone, Copy)]
+#[derive(Clone, Copy, Debug, PartialEq)]
 pub struct Arc {
     pub start: Start,
     pub interval: Interval,
@@ -27,7 +27,7 @@ pub struct Arc {
 }
 
 // The figures of an answer: thirteen doubles.
-#[derive(Clone, Copy)]
+#[derive(Clone, Copy, Debug, PartialEq)]
 pub struct Results {
     pub end: State,
     pub end_acceleration: Vector,

@@ -23,7 +23,8 @@ use Rattle.bits.specs.Words.{words_of}
 computed : Arc → List ℕ
 unfolding
     add sub mul div neg lt eq of_int of_bits to_bits first_of has floor_of as_it_is without_n without_revolutions interval_of beyond_one reduced_from nested
-    c4_of c5_of at_reduced doublings quotients_of coefficients_of sums_of radius_of factors_of end_state_of arc_of u_at_found whole_anomaly_of whole_sums_of sums_at_whole
+    c4_of c5_of at_reduced doublings quotients_of coefficients_of sums_of radius_of factors_of end_state_of arc_of u_at_found whole_anomaly_of whole_sums_of
+    sums_at_whole
     u_at_whole u_of u_refused matrix_of plus_of minus_of partial_of unit_of component_of entry_of up_to entries_of
 computed a = words_of (entries_of a)
 

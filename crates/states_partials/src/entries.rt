@@ -10,7 +10,7 @@ use states_arcs::Arc;
 use states_start::Vector;
 
 // The components of an entry: p and w of the result's position and velocity, q and u of the start's.
-#[derive(Clone, Copy)]
+#[derive(Clone, Copy, Debug, PartialEq)]
 struct Components {
     p: f64,
     w: f64,
@@ -25,7 +25,7 @@ fn products(at: Components, a: f64, b: f64, c: f64, d: f64) -> f64
     (a * at.p * at.q + b * at.p * at.u) + (c * at.w * at.q + d * at.w * at.u)
 }
 
-// Component 0, 1 or 2 of a vector.
+// Component 0, 1 or 2 of a vector. Rows, columns and components are numbers, as document 01 counts them, and the definition `entry_of` too.
 #[tactic(auto, unfolding(crate::specs::Entries::component_of))]
 fn component(v: Vector, i: usize) -> f64
     ensures { result ≡ component_of v i }

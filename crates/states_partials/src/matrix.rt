@@ -9,7 +9,7 @@ use series::Sums;
 use states_arcs::{Arc, Factors};
 
 // A11 to A33 of document 01: A11 in 1/(km^2 s), A12 and A21 in 1/km^2, A13, A22 and A31 in s/km^2, A23 and A32 in s^2/km^2, A33 in s^3/km^2.
-#[derive(Clone, Copy)]
+#[derive(Clone, Copy, Debug, PartialEq)]
 pub struct Matrix {
     pub a11: f64,
     pub a12: f64,

@@ -10,11 +10,11 @@ use series::Anomaly;
 use states_arcs::Arc;
 
 // The whole anomaly (s/km), revolutions included. The one that was found is of type `Anomaly`: neither stands for the other.
-#[derive(Clone, Copy)]
+#[derive(Clone, Copy, Debug, PartialEq)]
 pub struct WholeAnomaly(pub f64);
 
 // The whole anomaly, and s3, s4 and s5 there, in s/km and its third, fourth and fifth powers.
-#[derive(Clone, Copy)]
+#[derive(Clone, Copy, Debug, PartialEq)]
 pub struct WholeSums {
     pub psi: WholeAnomaly,
     pub s3: f64,

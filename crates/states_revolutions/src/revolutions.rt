@@ -38,7 +38,8 @@ fn is_usable(revolution: Revolution) -> bool
     bits::words::is_finite(revolution.period.0) && revolution.period.0 > 0.0
 }
 
-// The course of an orbit: its revolution, where it closes and the period can be used. Else no revolution comes off an interval. It belongs to the state, not to an interval: many can share it.
+// The course of an orbit: its revolution, where it closes and the period can be used. Else no revolution comes off an interval. It belongs to the state, not to
+// an interval: many can share it.
 #[tactic(auto, unfolding(crate::specs::Revolutions::course_of))]
 pub fn course_of(initial: Initial) -> Option<Revolution>
     ensures { result ≡ course_of initial }

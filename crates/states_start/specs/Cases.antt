@@ -5,7 +5,17 @@ use Rattle.std.specs.Float.{binary64}
 use Rattle.std.specs.Float.Ieee.{add, sub, mul, div, neg, lt, eq, of_bits, to_bits}
 use Rattle.bits.specs.Runs.{first_of, has}
 use Rattle.bits.specs.Root.{root_word_of, root_of}
-use Rattle.bits.specs.declared.refusal.Refusal.TheVariants.{StartNotFinite, MuNotFinite, XNotFinite, YNotFinite, ZNotFinite, VxNotFinite, VyNotFinite, VzNotFinite, TauNotFinite}
+use Rattle.bits.specs.declared.refusal.Refusal.TheVariants.{
+  StartNotFinite,
+  MuNotFinite,
+  XNotFinite,
+  YNotFinite,
+  ZNotFinite,
+  VxNotFinite,
+  VyNotFinite,
+  VzNotFinite,
+  TauNotFinite,
+}
 use Rattle.search_points.specs.declared.figures.Initial.{Initial}
 use Rattle.states_revolutions.specs.Revolutions.{revolution_of, is_closed, is_usable, course_of}
 use Rattle.states_revolutions.specs.declared.figures.Revolution.{Revolution}

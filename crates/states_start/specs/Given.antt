@@ -6,7 +6,16 @@ use Rattle.bits.specs.Choice.{pick}
 use Rattle.bits.specs.Arithmetic.{is_finite}
 use Rattle.bits.specs.Runs.{first_of, has}
 use Rattle.bits.specs.declared.refusal.Refusal.{Refusal}
-use Rattle.bits.specs.declared.refusal.Refusal.TheVariants.{MuNotFinite, XNotFinite, YNotFinite, ZNotFinite, VxNotFinite, VyNotFinite, VzNotFinite, TauNotFinite}
+use Rattle.bits.specs.declared.refusal.Refusal.TheVariants.{
+  MuNotFinite,
+  XNotFinite,
+  YNotFinite,
+  ZNotFinite,
+  VxNotFinite,
+  VyNotFinite,
+  VzNotFinite,
+  TauNotFinite,
+}
 use Rattle.bits.specs.declared.runs.Sought.TheVariants.{NotFinite}
 use Rattle.states_revolutions.specs.declared.figures.WholeInterval.{WholeInterval}
 use Rattle.states_start.specs.declared.figures.Vector.{Vector}

@@ -4,7 +4,7 @@ use states_revolutions::{Revolution, WholeInterval};
 use std::ops::{Add, Div, Mul};
 
 // A position (km), a velocity (km/s) or an acceleration (km/s^2).
-#[derive(Clone, Copy)]
+#[derive(Clone, Copy, Debug, PartialEq)]
 pub struct Vector {
     pub x: f64,
     pub y: f64,
@@ -76,35 +76,35 @@ impl Div<f64> for Vector {
 }
 
 // Where a body is and how it moves.
-#[derive(Clone, Copy)]
+#[derive(Clone, Copy, Debug, PartialEq)]
 pub struct State {
     pub position: Vector,
     pub velocity: Vector,
 }
 
 // Seven of the eight doubles that come in: mu (km^3/s^2) and the state at the start. The interval stands beside it.
-#[derive(Clone, Copy)]
+#[derive(Clone, Copy, Debug, PartialEq)]
 pub struct Orbit {
     pub mu: f64,
     pub state: State,
 }
 
 // What eight words hold: an orbit and the whole interval.
-#[derive(Clone, Copy)]
+#[derive(Clone, Copy, Debug, PartialEq)]
 pub struct Given {
     pub orbit: Orbit,
     pub whole: WholeInterval,
 }
 
 // What every interval of one orbit begins with: its state, and its initial figures, mu among them.
-#[derive(Clone, Copy)]
+#[derive(Clone, Copy, Debug, PartialEq)]
 pub struct Start {
     pub state: State,
     pub initial: Initial,
 }
 
 // The start of an orbit, and its course: the revolution that can come off its intervals, if there is one.
-#[derive(Clone, Copy)]
+#[derive(Clone, Copy, Debug, PartialEq)]
 pub struct Begun {
     pub start: Start,
     pub course: Option<Revolution>,

@@ -67,7 +67,8 @@ pub fn after(call: io::Result<usize>, left: Left) -> ControlFlow<io::Result<()>,
     }
 }
 
-// Moves bytes until all are moved, the other side has no more to give or to take, or a call fails. Answers how many were moved.
+// Moves bytes until all are moved, the other side has no more to give or to take, or a call fails. Answers how many were moved. A `while`, since nobody knows
+// how many turns it takes: a call moves as much as it likes.
 pub fn move_whole<M: Mover>(mover: &mut M) -> io::Result<usize>
     ensures { IfOk result (M.suffices (M.size mover.old)) }
 {
