@@ -3,6 +3,7 @@ ghost use Rattle.std.specs.Prelude.{◌≡◌, ◌^◌};
 ghost use Rattle.std.specs.Float.Ieee.{lt};
 ghost use Rattle.bits.specs.Choice.{pick};
 ghost use Rattle.bits.specs.Arithmetic.{n0};
+ghost use Rattle.search_points.specs.Residual.{time_error_of};
 ghost use Rattle.search_points.specs.Trial.{anomaly_at, has_sign, sort_of, unevaluated, trial_of, evaluated_at, trial_at};
 
 use super::figures::{Initial, Sort, Terms, Trial};
@@ -84,6 +85,15 @@ pub struct Passage {
 }
 
 impl Passage {
+    // R, the time error (s) of the anomaly whose sums are s.
+    #[tactic(auto, unfolding(crate::specs::Residual::time_error_of))]
+    pub fn time_error(self, s: Sums) -> f64
+        ensures { result ≡ time_error_of self.initial self.tau s }
+    {
+        let initial = self.initial;
+        ((initial.r0 * s.s1 + initial.sigma0 * s.s2) + initial.mu * s.s3) - self.tau.0
+    }
+
     // The point whose c0 and sums are given.
     pub fn point_of(self, c0: f64, s: Sums) -> Trial
         ensures { result ≡ trial_of self.initial self.tau c0 s }
