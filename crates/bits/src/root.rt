@@ -93,7 +93,8 @@ fn packed_root(number: Scaled) -> u64
     (e / 2 + 485) * FIELD + (q + 1) / 2
 }
 
-// The root of the double of a word, as a word.
+// The root of the double of a word, as a word. Compiled into its callers: as a call of its own its Result comes back through memory, at 12 instructions a root.
+#[inline(always)]
 pub fn root_of(word: u64) -> Result<u64, Refusal>
     ensures { RootAnswer word (number_in result) (word_in result) }
 {

@@ -35,7 +35,7 @@ fn check_rows(file: &[u8]) -> Result<(), Fault>
     )
 }
 
-// Row k of a file that has it.
+// Row k of a file that has it. Three contracts say that it has: for each a struct with that fact would name one file and one number.
 fn row_at(file: &[u8], k: usize) -> &[u8]
     requires { checked_place k + 8 * checked_width ≤ length file.now }
     ensures { result.now ≡ row_at file.now k }

@@ -41,7 +41,7 @@ pub struct Found {
     pub refusal: Refusal,
 }
 
-// The first word of a column, below a bound, that has a fault.
+// The first word of a column, below a bound, that has a fault. The kind and the width are handed in and not looked up: this is the reader's inner loop.
 fn first_of_column<W: Word>(
     words: &[W],
     kind: Kind,

@@ -1,4 +1,5 @@
-// A state appended to a run, or withdrawn from it, and the entry of its centre brought up to date, in a list of either kind.
+// A state appended to a run, or withdrawn from it, and the entry of its centre brought up to date, in a list of either kind. What is known of a list stays
+// apart as plain numbers, `each` and `long`, and as `listed`: the definitions take it so, and so it is one way for both kinds.
 ghost use Rattle.std.specs.Prelude.{◌≡◌, suc, ◌*◌, ◌≤◌, length};
 ghost use Rattle.files_summary.specs.Entries.{state_width, centre_of};
 ghost use Rattle.files_summary.specs.Changes.{refuse, one_each, lent_refusal, append_refusal, withdraw_refusal, state_at, changed};

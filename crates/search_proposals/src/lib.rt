@@ -1,4 +1,4 @@
-// Layer 3: the three proposals for an inner point. Each gives a place, where it fits.
+// Layer 3: the three proposals for an inner point. Each gives a place, where it fits. Two of them ask for the interval alone, and take no more.
 #![tactic(auto)]
 
 ghost use Rattle.std.specs.Prelude.{◌≡◌};

@@ -17,7 +17,7 @@ use search_points::Initial;
 use series::{Anomaly, Seconds};
 use states_arcs::Results;
 use states_revolutions::{Interval, WholeInterval};
-use states_start::{Begun, Orbit, Start};
+use states_start::{Begun, Given, Start};
 
 // A refusal, with the points used so far.
 pub fn refused_with(refusal: Refusal, points: u64) -> Refused
@@ -70,11 +70,11 @@ fn reach_from(begun: Begun, whole: WholeInterval, seeking: Seeking) -> Result<Re
 
 // From an orbit over a whole interval: refusals 3 and 4 by the orbit, then the interval.
 #[tactic(auto, unfolding(crate::specs::Call::reached_orbit_by))]
-fn reach_orbit(orbit: Orbit, whole: WholeInterval, seeking: Seeking) -> Result<Reached, Refused>
-    ensures { result ≡ reached_orbit_by interval_of (finder_of seeking) orbit whole }
+fn reach_orbit(given: Given, seeking: Seeking) -> Result<Reached, Refused>
+    ensures { result ≡ reached_orbit_by interval_of (finder_of seeking) given.orbit given.whole }
 {
-    let begun = states_start::start_of(orbit).map_err(|refusal| refused_with(refusal, 0))?;
-    reach_from(begun, whole, seeking)
+    let begun = states_start::start_of(given.orbit).map_err(|refusal| refused_with(refusal, 0))?;
+    reach_from(begun, given.whole, seeking)
 }
 
 // From the eight words: refusals 31 to 38, then the orbit.
@@ -83,7 +83,7 @@ pub fn reach(words: [u64; 8], seeking: Seeking) -> Result<Reached, Refused>
     ensures { result ≡ reached_words_by interval_of (finder_of seeking) words }
 {
     let given = states_start::orbit_of(words).map_err(|refusal| refused_with(refusal, 0))?;
-    reach_orbit(given.orbit, given.whole, seeking)
+    reach_orbit(given, seeking)
 }
 
 // Position, velocity and accelerations of eight words; refusals 7 and 8 after those of the way to the arc.
