@@ -91,7 +91,12 @@ pub fn reach(words: [u64; 8], seeking: Seeking) -> Result<Reached, Refused>
 pub fn propagate(words: [u64; 8]) -> Result<Answer, Refused>
     ensures { result ≡ propagate_of words }
 {
-    let Reached { arc, points } = reach(words, Seeking::Search)?;
-    let results = states_arcs::ended(arc).map_err(|refusal| refused_with(refusal, points))?;
-    Ok(answered_with(points, results))
+    // No `?`: it copies the arc by a call of memcpy, and the library calls no function of libc but memset.
+    match reach(words, Seeking::Search) {
+        Ok(Reached { arc, points }) => {
+            let results = states_arcs::ended(arc).map_err(|refusal| refused_with(refusal, points))?;
+            Ok(answered_with(points, results))
+        }
+        Err(refused) => Err(refused),
+    }
 }

@@ -16,8 +16,14 @@ pub fn propagate_with_partials(words: [u64; 8], run: &mut [u64]) -> Result<Answe
     if run.len() != 36 {
         return Err(refused_with(Refusal::PartialsLength, 0));
     }
-    let Reached { arc, points } = reach(words, Seeking::Search)?;
-    let results = states_arcs::ended(arc).map_err(|refusal| refused_with(refusal, points))?;
-    states_partials::write_partials(arc, run).map_err(|refusal| refused_with(refusal, points))?;
-    Ok(answered_with(points, results))
+    // No `?`, as in `propagate`.
+    match reach(words, Seeking::Search) {
+        Ok(Reached { arc, points }) => {
+            let results = states_arcs::ended(arc).map_err(|refusal| refused_with(refusal, points))?;
+            let written = states_partials::write_partials(arc, run);
+            written.map_err(|refusal| refused_with(refusal, points))?;
+            Ok(answered_with(points, results))
+        }
+        Err(refused) => Err(refused),
+    }
 }
