@@ -16,8 +16,8 @@
 **
 **  No call keeps anything between calls: they are reentrant, and safe in several threads at once. They
 **  need SSE2 and nothing newer of the processor, memset and nothing else of libc, and of the stack at
-**  most 60 bytes (interval), 100 (root), 200 (compare, summary, append, withdraw), 400 (read, write),
-**  1,200 (propagate), 1,300 (results), 1,600 (check) or 2,000 (partials). They may raise floating-point
+**  most 60 bytes (root, interval), 200 (summary, append, withdraw), 400 (read, write, compare), 1,200
+**  (propagate), 1,300 (results), 1,600 (check) or 2,000 (partials). They may raise floating-point
 **  flags, as fetestexcept shows them, and lower none.
 **
 **  The figures are those of a processor that rounds to nearest and keeps subnormal numbers, as
