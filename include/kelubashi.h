@@ -16,7 +16,7 @@
 **
 **  No call keeps anything between calls: they are reentrant, and safe in several threads at once. They
 **  need SSE2 and nothing newer of the processor, memset and nothing else of libc, and of the stack at
-**  most 60 bytes (root, interval), 200 (summary, append, withdraw), 400 (read, write, compare), 1,200
+**  most 60 bytes (root, interval), 200 (compare, summary, append, withdraw), 400 (read, write), 1,200
 **  (propagate), 1,300 (results), 1,600 (check) or 2,000 (partials). They may raise floating-point
 **  flags, as fetestexcept shows them, and lower none.
 **

@@ -1,6 +1,7 @@
 #!/bin/sh
 # Every function that a crate shows to others has a promise, asks nothing of its caller, and has the law that any two answers which the promise
-# allows are equal (proofs/OneAnswers.antt); a public function that a crate keeps to itself has a promise at least. What a crate shows is read
+# allows are equal (proofs/OneAnswers.antt), and so has what an impl gives by the library's From, TryFrom and operators; a public function that a
+# crate keeps to itself has a promise at least. What a crate shows is read
 # off what rt has made of it (out/), which rt makes anew where the crate has changed. Exceptions stand below by name, with their reason.
 #
 #     promises.sh          whether it is so
@@ -51,11 +52,11 @@ law() {
 
 while read -r crate path shown promised asks; do
     [ "$promised" = promised ] || say "$crate: $path has no ensures: write what it answers"
-    [ "$shown" = shown ] || continue
+    [ "$shown" != kept ] || continue
     [ "$asks" = - ] || say "$crate: $path has a requires: what a crate shows asks nothing of its caller, and refuses instead"
     ! echo "$many_answers" | grep -qx "$crate $path" || continue
     law "$crate" "$path" || say "$crate: no law in crates/$crate/proofs/OneAnswers.antt says of $path alone that any two answers are equal"
 done <"$list"
 
 [ $wrong = 0 ] || exit 1
-echo "promises: $(wc -l <"$list" | tr -d ' ') public functions have a promise; those that a crate shows, $(grep -c ' shown ' "$list"), ask nothing and have one answer, but for: $(echo "$many_answers" | tr '\n' ',' | sed 's/,$//; s/,/, /g')"
+echo "promises: $(wc -l <"$list" | tr -d ' ') public functions have a promise; those that a crate shows, $(grep -c ' shown ' "$list"), and that an impl gives, $(grep -c ' given ' "$list"), ask nothing and have one answer, but for: $(echo "$many_answers" | tr '\n' ',' | sed 's/,$//; s/,/, /g')"

@@ -3,9 +3,10 @@
 #
 #     awk -v crate=CRATE -v crates=' NAME NAME .. ' -v base=FOLDER -f shown.awk FILE..
 #
-# Prints a line for each public function, however deep: crate, path, "shown" or "kept", "promised" or "-", "asks" where it has a requires or "-".
+# Prints a line for each public function, however deep: crate, path, "shown", "given" or "kept", "promised" or "-", "asks" where it has a requires or "-".
 # A path has its modules, its type and its name, with dots between. The functions of a public trait are kept: each impl of it promises what they do, and no impl
-# has clauses to look at here. What cannot be followed is a line that begins with "!".
+# has clauses to look at here. Given are those of an impl that says by `.._gives` what they answer, as From and Mul of the library ask for it: whoever has the
+# type has them. What cannot be followed is a line that begins with "!".
 
 # The path of the module that a file is, and of a name in it.
 function module_of(file) {
@@ -107,6 +108,7 @@ function opens(name, of_trait) {
     kept_trait[depth] = trait
     type = name
     trait = of_trait
+    gives[depth] = 0
 }
 
 FNR == 1 { module = module_of(FILENAME); depth = 0; type = ""; trait = 0; open_function = ""; ghost = 0 }
@@ -115,8 +117,9 @@ FNR == 1 { module = module_of(FILENAME); depth = 0; type = ""; trait = 0; open_f
 /^ghost use / { ghost = 1 }
 ghost { if (/;$/) ghost = 0; next }
 
-# A contract stands in the lines behind the function's own.
+# A contract stands in the lines behind the function's own; what an impl gives, before its functions.
 /^ / {
+    if (open_function == "" && /^ +ghost [a-z_]+_gives = /) gives[depth] = 1
     if (open_function != "") {
         if ($1 ~ /^ensures\*?$/) promised[open_function] = 1
         if ($1 ~ /^requires\*?$/) asks[open_function] = 1
@@ -170,6 +173,7 @@ ghost { if (/;$/) ghost = 0; next }
     open_function = where
     functions[where] = 1
     if (trait) public[where] = 1
+    if (gives[depth]) public[where] = given[where] = promised[where] = 1
     if (/^pub (const |unsafe |extern "C" )*fn /) {
         public[where] = 1
         if (type != "") taken[where] = 1     # a method goes with its value
@@ -218,5 +222,5 @@ END {
     show("")
     for (at = 2; at <= waits; at++) show(waiting[at])
     for (each in public)
-        print crate, each, each in taken ? "shown" : "kept", each in promised ? "promised" : "-", each in asks ? "asks" : "-"
+        print crate, each, each in taken ? "shown" : each in given ? "given" : "kept", each in promised ? "promised" : "-", each in asks ? "asks" : "-"
 }

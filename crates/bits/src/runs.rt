@@ -33,13 +33,15 @@ pub fn first_of(words: &[u64], sought: Sought) -> usize
 }
 
 // Whether a run has a word that is sought.
+#[tactic(auto, unfolding(crate::specs::Runs::has))]
 pub fn has(words: &[u64], sought: Sought) -> bool
     ensures { result ≡ has sought words.now }
 {
-    words.iter().any(|word| is_sought(*word, sought))
+    first_of(words, sought) < words.len()
 }
 
 // Copies the words into a run of the same length; a run of another length keeps its own.
+#[inline(always)]
 pub fn copy_words(words: &[u64], run: &mut [u64])
     ensures { run.new ≡ copied words.now run.old }
 {

@@ -15,6 +15,8 @@ use Rattle.files_differences.proofs.told.largest_with.Kinds as largest-with-kind
 use Rattle.files_differences.proofs.told.largest_with.Reads as largest-with-reads
 use Rattle.files_differences.proofs.told.words_of.Kinds as words-of-kinds
 use Rattle.files_differences.proofs.told.words_of.Reads as words-of-reads
+use Rattle.files_differences.proofs.told.RefusedFromFault.from.Kinds as from-kinds
+use Rattle.files_differences.proofs.told.RefusedFromFault.from.Reads as from-reads
 
 pub distance_of_one : OneAnswer 0 distance-of-kinds.ps distance-of-kinds.r distance-of-reads.Post
 distance_of_one κs a x y v w p q = (p ∙ sym q, refl)
@@ -36,3 +38,6 @@ largest_with_one κs a x y v w p q = (p ∙ sym q, refl)
 
 pub words_of_one : OneAnswer 0 words-of-kinds.ps words-of-kinds.r words-of-reads.Post
 words_of_one κs a x y v w p q = (p ∙ sym q, refl)
+
+pub from_one : OneAnswer 0 from-kinds.ps from-kinds.r from-reads.Post
+from_one κs a x y v w p q = (p ∙ sym q, refl)

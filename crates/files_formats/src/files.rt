@@ -10,7 +10,7 @@ use crate::elements::{Section, limit, width};
 use crate::firsts::first_fault;
 use crate::shapes::Shape;
 use bits::Refusal;
-use files_checks::{Fault, check_count, need};
+use files_checks::{Fault, check_count, need, words_there};
 use files_words::word_at;
 
 // The walk over so many words from a place on, by the table of their section.
@@ -25,7 +25,7 @@ fn walk_words(
     ensures { result ≡ walk (ruling_of (kinds_of shape.edition section) (below_of shape section)) place [] words (words_from file.now place) }
 {
     let (whole, _) = file[place..].as_chunks::<8>();
-    let there = &whole[..words.min(whole.len())];
+    let there = &whole[..words_there(file, place, words)];
     match first_fault(there, shape, section) {
         Some(found) => Err(Fault {
             refusal: found.refusal,

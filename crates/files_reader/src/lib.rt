@@ -7,20 +7,18 @@ ghost use Rattle.files_formats.specs.Shapes.{shape_of, section_check};
 ghost use Rattle.files_reader.specs.Reader.{edition_in, first_check, grown, reading_of};
 
 use bits::Refusal;
-use files_checks::{Fault, need};
+use files_checks::{Fault, check_edition, need};
 use files_formats::{Edition, Section, Shape, check_section};
-use files_words::{is_whole, word_at};
+use files_words::word_at;
 
 // The edition: a shape that has no records yet.
-#[tactic(auto, unfolding(files_checks::specs::Checks::edition_check))]
 fn read_edition(file: &[u8]) -> Result<Shape, Fault>
     ensures { result ≡ (first_check file.now ⟫ Ok (shape_of (edition_in file.now) 0 0 0)) }
 {
-    need(is_whole(file, 0), Refusal::WordMissing, 0)?;
-    let word = word_at(file, 0);
-    let edition = Edition::try_from(word).map_err(|refusal| Fault { refusal, place: 0 })?;
+    let edition = Edition::try_from(word_at(file, 0));
+    check_edition(file, edition.is_ok())?;
     Ok(Shape {
-        edition,
+        edition: edition.unwrap(),
         centres: 0,
         states: 0,
         requests: 0,

@@ -17,7 +17,7 @@ fn put_at(run: &mut [u64], w: usize, i: usize, words: &[u64])
     ensures { run.new ≡ put_at w run.old i words.now }
 {
     let at = i * w;
-    run[at..at + w].copy_from_slice(words);
+    bits::copy_words(words, &mut run[at..at + w]);
 }
 
 // A record of w words put at i; behind i records it is appended. Where the run has no record i, or the words are not w, nothing is put.

@@ -108,6 +108,10 @@ module _ (file : List ℕ) (place : ℕ) where
 
 -- ---- A word of eight bytes is below 2 ^ 64.
 
+pub below_of_lem : (n : ℕ) (s : List ℕ) → ((i : ℕ) → get_or s i 0 < n) → Below n s
+below_of_lem n [] h = tt
+below_of_lem n (x ∷ s) h = (h 0, below_of_lem n s (λ i. h (suc i)))
+
 pub number_bound : (m n : ℕ) (s : List ℕ) → Below 256 s → n ≤ m → number_of (take n s) < 256 ^ m
 unfolding number_of
 number_bound zero zero s h p = omega arith

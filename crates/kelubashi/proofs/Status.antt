@@ -3,7 +3,8 @@
 use mathlib.Core.Path.{◌≡◌, sym, ap, subst, ◌∙◌}
 use mathlib.Core.Bool.{Bool, true, false, not}
 use mathlib.Core.List.{List, [], ◌∷◌}
-use Prim.Native.Nat.{ℕ}
+use Rattle.std.specs.Prelude.{Result, Ok, Err}
+use Prim.Native.Nat.{ℕ, ◌<◌}
 use native.Mathlib.Omega.{arith}
 use borrow.Author.Tests.{eq-eqb, ne_eqb}
 use contract.Lifetimes.{Lfts}
@@ -12,11 +13,14 @@ use lib.ListN.{length}
 use Rattle.bits.specs.Choice.{pick}
 use Rattle.bits.specs.Words.{infinity, minus_zero}
 use Rattle.bits.specs.Root.{root_refusal_of, root_word_of}
+use Rattle.bits.specs.Refusal.{number_of, number_in as refusal_in}
+use Rattle.bits.specs.declared.refusal.Refusal.{Refusal}
 use Rattle.states.specs.Call.{answer_words}
 use Rattle.states.specs.CallPromise.{ByName}
 use Rattle.states.proofs.NamedFigures.{calls_name}
 use Rattle.files_results.specs.Requests.{tau_of}
-use Rattle.kelubashi.specs.Face.{returned, answer_after, number_in}
+use Rattle.files_summary.specs.declared.changes.Change.{Change}
+use Rattle.kelubashi.specs.Face.{returned, answer_after, number_in, change_words}
 use Rattle.kelubashi.proofs.Calls.{Places, Root, Interval, Propagate, Partials, Read, Write, Results, Summary, Append, Withdraw, Check, Compare}
 
 -- For an answer of n words: what is returned, and what the answer run held and holds.
@@ -108,6 +112,23 @@ module _ (at : Places) (answer : List ℕ) (number : ℕ) (after : List ℕ) whe
   pub compare_status : (κs : Lfts 4) (left right rows rows_after : List ℕ) →
       Compare κs at left right rows answer number rows_after after → Status 7 answer number after
   compare_status κs left right rows rows_after p = status 7 answer _ p.0 p.1.0
+
+  -- T-02: a refused change answers, behind its number, "the count given".
+  keeps : (count : ℕ) (change : Result Change Refusal) → number ≡ returned 2 answer (refusal_in change) →
+      after ≡ answer_after 2 answer (change_words count change) → length answer ≡ 2 → 0 < number → after ≡ number ∷ count ∷ []
+  keeps count (Ok change) p q h made = absurd (omega (arith, passed 2 answer 0 p h))
+  keeps count (Err refusal) p q h made =
+      let n = passed 2 answer (number_of refusal) p h in
+      let words : after ≡ number_of refusal ∷ count ∷ [] = rw (eq-eqb (length answer) 2 h) at q in
+      words ∙ ap (λ (m : ℕ). m ∷ count ∷ []) (sym n)
+
+  pub append_keeps_count : (κs : Lfts 4) (state states : List ℕ) (count centres : ℕ) (list states_after list_after : List ℕ) →
+      Append κs at state states count centres list answer number states_after list_after after → length answer ≡ 2 → 0 < number → after ≡ number ∷ count ∷ []
+  append_keeps_count κs state states count centres list states_after list_after p = keeps count _ p.0 p.1.0
+
+  pub withdraw_keeps_count : (κs : Lfts 3) (which : ℕ) (states : List ℕ) (count centres : ℕ) (list states_after list_after : List ℕ) →
+      Withdraw κs at which states count centres list answer number states_after list_after after → length answer ≡ 2 → 0 < number → after ≡ number ∷ count ∷ []
+  withdraw_keeps_count κs which states count centres list states_after list_after p = keeps count _ p.0 p.1.0
 
   -- T-05: 31 to 38 by the parameters of the C call, in their order.
   pub propagate_names : (κs : Lfts 1) (mu x y z vx vy vz tau : ℕ) →

@@ -15,7 +15,7 @@ use Rattle.files.specs.Writer.{runs_of, writing_of, room_of}
 use Rattle.files_results.specs.Results.{outcome_of}
 use Rattle.files_summary.specs.declared.changes.Change.{Change}
 use Rattle.files_summary.specs.Entries.{roster_of}
-use Rattle.files_summary.specs.Changes.{Asked, change_beside, run_beside, settled_by, put_entry}
+use Rattle.files_summary.specs.Changes.{Asked, count_after, change_beside, run_beside, settled_by, put_entry}
 
 -- What is returned, for an answer of n words and a run as it was handed in.
 abbrev pub returned : ℕ → List ℕ → ℕ → ℕ
@@ -71,8 +71,7 @@ module _ (asked : Asked) (states : List ℕ) (count centres : ℕ) (list : List 
 
 -- The answer of a change of the states, of which so many were in use: number, then the states in use afterwards.
 abbrev pub in_use_after : (count : ℕ) → Result Change Refusal → ℕ
-in_use_after count (Ok change) = change.count
-in_use_after count (Err refused) = count
+in_use_after count change = count_after change count
 
 abbrev pub change_words : (count : ℕ) → Result Change Refusal → List ℕ
 change_words count change = refusal_in change ∷ in_use_after count change ∷ []

@@ -64,13 +64,13 @@ pub fn kelubashi1_root(word: u64, answer: &mut [u64]) -> u64
         return Refusal::AnswerLength.into();
     }
     let root = bits::root::root_of(word);
-    // A single word is stored by its index, here and in the interval: `copy_from_slice` takes six instructions more.
+    // A single word is stored by its index, here and in the interval: a copy of one takes six instructions more.
     answer[0] = root.unwrap_or(0);
     number_in(root)
 }
 
 // Position, velocity and accelerations of eight words, to an answer run of fifteen words.
-#[tactic(auto, unfolding(states::specs::Call::answer_words))]
+#[tactic(auto, unfolding(bits::specs::Runs::copied, states::specs::Call::answer_words))]
 pub fn kelubashi1_propagate(
     mu: u64,
     x: u64,
@@ -89,12 +89,12 @@ pub fn kelubashi1_propagate(
         return Refusal::AnswerLength.into();
     }
     let words = states::words_of(states::propagate([mu, x, y, z, vx, vy, vz, tau]));
-    answer.copy_from_slice(&words);
+    bits::copy_words(&words, answer);
     words[0]
 }
 
 // The same, with the 36 partials to a lent run.
-#[tactic(auto, unfolding(states::specs::Call::answer_words))]
+#[tactic(auto, unfolding(bits::specs::Runs::copied, states::specs::Call::answer_words))]
 pub fn kelubashi1_partials(
     mu: u64,
     x: u64,
@@ -118,11 +118,12 @@ pub fn kelubashi1_partials(
     }
     let answered = states::propagate_with_partials([mu, x, y, z, vx, vy, vz, tau], run);
     let words = states::words_of(answered);
-    answer.copy_from_slice(&words);
+    bits::copy_words(&words, answer);
     words[0]
 }
 
 // Where the sections of an element file stand, to an answer run of eight words.
+#[tactic(auto, unfolding(bits::specs::Runs::copied))]
 pub fn kelubashi1_read(file: &[u8], answer: &mut [u64]) -> u64
     ensures number { result ≡ returned 8 answer.old (number_in (read_words file.now)) }
     ensures answer { answer.new ≡ answer_after 8 answer.old (read_words file.now) }
@@ -131,11 +132,12 @@ pub fn kelubashi1_read(file: &[u8], answer: &mut [u64]) -> u64
         return Refusal::AnswerLength.into();
     }
     let words = reading_words(files_reader::read_file(file));
-    answer.copy_from_slice(&words);
+    bits::copy_words(&words, answer);
     words[0]
 }
 
 // Three sections as an element file, to a room, and an answer run of two words.
+#[tactic(auto, unfolding(bits::specs::Runs::copied))]
 pub fn kelubashi1_write(
     centres: &[u64],
     states: &[u64],
@@ -154,7 +156,7 @@ pub fn kelubashi1_write(
     }
     let written = files::write_file(Edition::One, centres, states, requests, room);
     let words = sized_words(written);
-    answer.copy_from_slice(&words);
+    bits::copy_words(&words, answer);
     words[0]
 }
 
@@ -172,6 +174,7 @@ pub fn kelubashi1_interval(time: u64, epoch: u64, answer: &mut [u64]) -> u64
 }
 
 // The result file of an element file, to a room, and an answer run of two words.
+#[tactic(auto, unfolding(bits::specs::Runs::copied))]
 pub fn kelubashi1_results(file: &[u8], room: &mut [u8], answer: &mut [u64]) -> u64
     ensures number { result ≡ returned 2 answer.old (fault_number (outcome_of file.now room.old)) }
     ensures answer { answer.new ≡ answer_after 2 answer.old (results_words file.now room.old) }
@@ -182,11 +185,12 @@ pub fn kelubashi1_results(file: &[u8], room: &mut [u8], answer: &mut [u64]) -> u
         return Refusal::AnswerLength.into();
     }
     let outcome = files_results::write_results(file, room);
-    answer.copy_from_slice(&sized_words(outcome));
+    bits::copy_words(&sized_words(outcome), answer);
     fault_number(outcome)
 }
 
 // The summary of all states, an entry of four words for each centre, to a lent list, and an answer run of two words.
+#[tactic(auto, unfolding(bits::specs::Runs::copied))]
 pub fn kelubashi1_summary(
     states: &[u64],
     count: u64,
@@ -204,11 +208,12 @@ pub fn kelubashi1_summary(
         return Refusal::AnswerLength.into();
     }
     let number = number_in(files_summary::words::summary(list, states, roster_of(count, centres)));
-    answer.copy_from_slice(&[number, count]);
+    bits::copy_words(&[number, count], answer);
     number
 }
 
 // A state appended to those in use, and its centre's entry brought up to date, with an answer run of two words.
+#[tactic(auto, unfolding(bits::specs::Runs::copied))]
 pub fn kelubashi1_append(
     state: &[u64],
     states: &mut [u64],
@@ -230,11 +235,12 @@ pub fn kelubashi1_append(
         return Refusal::AnswerLength.into();
     }
     let appended = files_summary::words::append(list, state, states, roster_of(count, centres));
-    answer.copy_from_slice(&change_words(appended, count));
+    bits::copy_words(&change_words(appended, count), answer);
     number_in(appended)
 }
 
 // A state withdrawn from those in use, and its centre's entry brought up to date, with an answer run of two words.
+#[tactic(auto, unfolding(bits::specs::Runs::copied))]
 pub fn kelubashi1_withdraw(
     which: u64,
     states: &mut [u64],
@@ -256,11 +262,12 @@ pub fn kelubashi1_withdraw(
         return Refusal::AnswerLength.into();
     }
     let withdrawn = files_summary::words::withdraw(list, which, states, roster_of(count, centres));
-    answer.copy_from_slice(&change_words(withdrawn, count));
+    bits::copy_words(&change_words(withdrawn, count), answer);
     number_in(withdrawn)
 }
 
 // A verdict for each row of another station's file, to a lent run, and an answer run of two words.
+#[tactic(auto, unfolding(bits::specs::Runs::copied))]
 pub fn kelubashi1_check(file: &[u8], verdicts: &mut [u64], answer: &mut [u64]) -> u64
     ensures number { result ≡ returned 2 answer.old (number_in (judged_words (judged_of file.now (length verdicts.old)))) }
     ensures answer { answer.new
@@ -272,11 +279,12 @@ pub fn kelubashi1_check(file: &[u8], verdicts: &mut [u64], answer: &mut [u64]) -
         return Refusal::AnswerLength.into();
     }
     let words = sized_words(files_check::judge(file, verdicts));
-    answer.copy_from_slice(&words);
+    bits::copy_words(&words, answer);
     words[0]
 }
 
 // Two result files compared, row by row to a lent run, and an answer run of seven words.
+#[tactic(auto, unfolding(bits::specs::Runs::copied))]
 pub fn kelubashi1_compare(left: &[u8], right: &[u8], rows: &mut [u64], answer: &mut [u64]) -> u64
     ensures number { result ≡ returned 7 answer.old (number_in (compare_words left.now right.now rows.old)) }
     ensures answer { answer.new
@@ -288,6 +296,6 @@ pub fn kelubashi1_compare(left: &[u8], right: &[u8], rows: &mut [u64], answer: &
         return Refusal::AnswerLength.into();
     }
     let words = files_differences::words_of(files_compare::compare(left, right, rows));
-    answer.copy_from_slice(&words);
+    bits::copy_words(&words, answer);
     words[0]
 }

@@ -10,8 +10,9 @@
 
 mod reason;
 
-ghost use Rattle.std.specs.Prelude.{◌≡◌, List, ◌++◌, ℕ, ◌≤◌, length, take};
+ghost use Rattle.std.specs.Prelude.{◌≡◌, List, ◌++◌, ℕ, ◌+◌, ◌<◌, length, take};
 ghost use Rattle.std.specs.Counts.{IsPrefixLen};
+ghost use Rattle.files_reader.specs.Reader.{longest_file};
 ghost use Rattle.files_results.specs.Results.{result_file};
 
 use files_results::LONGEST_RESULT;
@@ -72,28 +73,30 @@ fn propagate<R: Read + Drop>(rt: &HostRuntime, mut input: R, name: &[u8]) {
     match streams::read_whole(&mut input, &mut file) {
         Ok(size) => {
             drop(input);
-            answer(rt, &file[..size]);
+            answer(rt, &file, size);
         }
         Err(error) => fail(rt, name, error),
     }
 }
 
-// Writes the result file of what was read to standard output.
-fn answer(rt: &HostRuntime, file: &[u8]) {
+// Writes the result file of an element file, of which so many bytes were read, to standard output.
+fn answer(rt: &HostRuntime, file: &[u8], size: usize)
+    requires { IsPrefixLen size file.now × (length file.now ≡ longest_file + 1) }
+{
     let mut room = [0u8; LONGEST_RESULT];
-    let size = results_of(file, &mut room);
+    let size = results_of(&file[..size], &mut room);
     if let Err(error) = streams::write_whole(&mut rt.stdout(), &room[..size]) {
         fail(rt, b"standard output", error);
     }
 }
 
-// The result file of what was read stands at the start of the room, which is as long as the longest. Answers its size. Where as much
-// was read as is read of any file, it is the result file of every longer file that begins so: the reader walks forward, no word that
-// it asks for stands behind byte 56,160, and where it finds no fault before, a byte is left after the last section: 25.
+// The result file of what was read stands at the start of the room, which is as long as the longest. Answers its size. Where more
+// was read than the longest accepted file has, it is the result file of every longer file that begins so: the reader walks forward, no
+// word that it asks for stands behind byte 56,160, and where it finds no fault before, a byte is left after the last section: 25.
 fn results_of(file: &[u8], room: &mut [u8; LONGEST_RESULT]) -> usize
     ensures size { IsPrefixLen result room.new }
     ensures read { take result room.new ≡ result_file file.now }
-    ensures longer { READ ≤ length file.now → (rest : List ℕ) → take result room.new ≡ result_file (file.now ++ rest) }
+    ensures longer { longest_file < length file.now → (rest : List ℕ) → take result room.new ≡ result_file (file.now ++ rest) }
 {
     let outcome = files_results::write_results(file, room);
     outcome.unwrap()

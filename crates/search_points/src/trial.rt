@@ -8,7 +8,7 @@ ghost use Rattle.search_points.specs.Trial.{anomaly_at, has_sign, sort_of, uneva
 
 use super::figures::{Initial, Sort, Terms, Trial};
 use bits::words::{INFINITY, SIGN, is_finite};
-use series::{Anomaly, Seconds, Sums, coefficients, sums};
+use series::{Anomaly, Seconds, Sums, first_sums};
 
 // What the sign of tau adds to a word.
 fn sign_of(tau: Seconds) -> u64
@@ -116,8 +116,8 @@ impl Passage {
     {
         let alpha = self.initial.alpha;
         if is_finite(alpha * (psi.0 * psi.0)) {
-            let c = coefficients(alpha, psi);
-            return self.point_of(c.c0, sums(psi, c));
+            let first = first_sums(alpha, psi);
+            return self.point_of(first.c0, first.sums);
         }
         unevaluated_as(Sort::Unreadable)
     }

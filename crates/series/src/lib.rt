@@ -47,7 +47,8 @@ pub fn coefficients(alpha: f64, psi: Anomaly) -> Coefficients
     restored(l, reduced)
 }
 
-// c0 and the sums of the anomaly psi: all that a trial point needs.
+// c0 and the sums of the anomaly psi: all that a trial point needs. Compiled into it: a propagation takes a third more where this is a call of its own.
+#[inline(always)]
 pub fn first_sums(alpha: f64, psi: Anomaly) -> FirstSums
     ensures { result ≡ record { c0 = (coefficients_of alpha psi).c0; sums = sums_of psi (coefficients_of alpha psi) } }
 {

@@ -18,7 +18,7 @@ pub use u::{u_of, u_refused};
 // Writes the words of the 36 partials of an arc to the run, or none of them. Refusal 1 where the run isn't exactly 36 long; 8 where a divisor of theirs is
 // zero, or a partial or a figure that U is made of isn't finite. Partials of position by position and of velocity by velocity are numbers, of position
 // by velocity in s, of velocity by position in 1/s.
-#[tactic(auto, unfolding(crate::specs::Partials::partials_refusal, crate::specs::Partials::lent_after))]
+#[tactic(auto, unfolding(crate::specs::Partials::partials_refusal, crate::specs::Partials::lent_after, bits::specs::Runs::copied))]
 pub fn write_partials(arc: Arc, run: &mut [u64]) -> Result<(), Refusal>
     ensures refusal { result ≡ partials_refusal arc run.old }
     ensures lent { run.new ≡ lent_after arc run.old }
@@ -37,6 +37,6 @@ pub fn write_partials(arc: Arc, run: &mut [u64]) -> Result<(), Refusal>
     if bits::has(&table, Sought::NotFinite) {
         return Err(Refusal::EndNotFinite);
     }
-    run.copy_from_slice(&table);
+    bits::copy_words(&table, run);
     Ok(())
 }

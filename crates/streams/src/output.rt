@@ -5,11 +5,12 @@ use super::calls::{Mover, move_whole};
 use std::io;
 use std::io::{ErrorKind, Write};
 
-// A writer, and the bytes for it.
+// A writer, the bytes for it, and the signal that came last.
 #[derive(Drop)]
 struct Output<'a, W> {
     writer: &'a mut W,
     bytes: &'a [u8],
+    signal: Option<io::Error>,
 }
 
 impl<W: Write> Mover for Output<'_, W> {
@@ -27,11 +28,16 @@ impl<W: Write> Mover for Output<'_, W> {
     }
 
     fn move_some(&mut self, behind: usize) -> io::Result<usize> {
-        self.writer.write(&self.bytes[behind..])
+        let call = self.writer.write(&self.bytes[behind..]);
+        if let Err(error) = call {
+            self.signal = Some(error);
+        }
+        call
     }
 
+    // A writer that took nothing after a signal has the signal for its reason.
     fn stopped(&self, _moved: usize) -> io::Result<usize> {
-        Err(io::Error::from(ErrorKind::WriteZero))
+        Err(self.signal.unwrap_or(io::Error::from(ErrorKind::WriteZero)))
     }
 }
 
@@ -39,5 +45,9 @@ impl<W: Write> Mover for Output<'_, W> {
 pub fn write_whole<W: Write>(writer: &mut W, bytes: &[u8]) -> io::Result<usize>
     ensures { All result bytes.now }
 {
-    move_whole(&mut Output { writer, bytes })
+    move_whole(&mut Output {
+        writer,
+        bytes,
+        signal: None,
+    })
 }

@@ -1,4 +1,4 @@
--- The room is long enough, so the outcome is the size of the result file, which stands at its start; and as much as is read of any file is long enough for `cut`.
+-- The room is long enough, so the outcome is the size of the result file, which stands at its start; and more than the longest accepted file has is long enough for `cut`.
 use Rattle.std.proofs.Common.{rules, arith, ◌≡◌, refl, sym, ◌∙◌, Ok, List, ℕ, length, take, le-leb}
 use Rattle.std.specs.Counts.{IsPrefixLen}
 use Rattle.files_results.specs.Results.{longest_result, result_file, outcome_in}
@@ -26,4 +26,4 @@ returns c =
     let f = fits file a.room.now (search rules) in
     let size : c.unwrap.result ≡ length (result_file file) = cc (e.outcome, f, c.unwrap.ensures) in
     let held : Holds file c.unwrap.result c.write_results-outcome.new.room = rw (size, e.room) (put_first a.room.now (result_file file) (omega (arith, longest file))) in
-    record { size = held.0; read = held.1; longer = λ full rest. held.1 ∙ sym (cut file rest (omega arith)) }
+    record { size = held.0; read = held.1; longer = λ long rest. held.1 ∙ sym (cut file rest long) }

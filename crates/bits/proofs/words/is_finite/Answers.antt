@@ -1,6 +1,7 @@
 -- The library's word for it is the definition.
-use mathlib.Core.Path.{◌≡◌, refl, ◌∙◌}
+use mathlib.Core.Path.{◌≡◌, refl}
 use lib.Ieee.{Float, nan, inf, fin}
+use Rattle.std.proofs.Common.{rules}
 use Rattle.std.specs.Float.{float_is_finite}
 use Rattle.bits.specs.Arithmetic.{is_finite}
 use Rattle.bits.proofs.words.is_finite.Goals as goal
@@ -12,4 +13,4 @@ same (inf s) = refl
 same (fin s m e) = refl
 
 pub returns : goal.returns
-returns c = c.is_finite.ensures.value ∙ same c.args.x
+returns c = search (rules, same c.args.x)

@@ -1,10 +1,11 @@
 -- The kind of a word is `NotFinite` exactly where its field is 2047, and so exactly where its double is not finite.
-use mathlib.Core.Path.{◌≡◌, refl, sym, ◌∙◌, ap}
+use mathlib.Core.Path.{◌≡◌, refl, sym}
 use mathlib.Core.Bool.{Bool, true, false, not}
 use Prim.Native.Nat.{ℕ}
 use native.Mathlib.Omega.{arith}
 use borrow.Author.Tests.{eqb-true, le-leb}
 use denote.Enum.Bare.{sameb}
+use Rattle.std.proofs.Common.{rules}
 use lib.Dec.{eqb, leb}
 use Rattle.bits.specs.contracts.words.Kind.{the_type}
 use Rattle.bits.specs.Choice.{pick}
@@ -27,4 +28,4 @@ by_field n = go (eqb n 0) (leb n 2046) (λ e. le-leb n 2046 (omega (arith, eqb-t
     go false false h = refl
 
 pub returns : goal.returns
-returns c = c.ne.ensures ∙ ap finite_kind c.kind_of.ensures ∙ by_field (field_of c.args.word) ∙ sym (finite_by_field c.args.word)
+returns c = search (rules, by_field (field_of c.args.word), finite_by_field c.args.word)
