@@ -95,7 +95,8 @@ impl From<Word<u64>> for u64 {
     ghost from_gives = { λ word number. number ≡ number };
 
     fn from(word: Word<u64>) -> u64 {
-        word.value
+        let Word { value } = word;
+        value
     }
 }
 
@@ -145,7 +146,7 @@ fi
     for path in tried_asks tried_never; do
         echo "promises: tried: $path has a requires: what a crate shows asks nothing of its caller, and refuses instead"
     done
-    for path in answers.left answers.other answers.three.far answers.Word.tried_value answers.U64FromWord.from fixed circular; do
+    for path in answers.left answers.other answers.three.far answers.Word.tried_value answers.U64FromWordU64.from fixed circular; do
         echo "promises: tried: no law in crates/tried/proofs/OneAnswers.antt says of $path alone that any two answers are equal"
     done
 } | sort >wanted
